@@ -1,0 +1,77 @@
+-- The memory of a process: pages of 4,096 bytes by number, each with its rights, and the map from addresses
+-- to bytes with rights that they make.
+use Rattle.std.specs.Prelude.{◌≡◌, ℕ, zero, suc, ◌+◌, ◌*◌, ◌%◌, ◌/◌, ◌^◌, ◌<◌, ◌≤◌, Bool, if◌then◌else◌, ◌&&◌, nat_lt, nat_le, List, [], ◌∷◌, map, length, slice_index, replicate}
+use Rattle.std.specs.Ordering.{nat_cmp}
+use Rattle.std.specs.FinMap.{FinMap, get, insert, remove, entries, from_entries}
+use Rattle.std.specs.declared.option.Option.{Option}
+use Rattle.std.specs.declared.option.Option.TheVariants.{None, Some}
+use Rattle.rv_core.specs.Memory.{Memory, Cell}
+
+-- A page: its rights (1 read, 2 write, 4 run) and its bytes.
+pub record Frame : Type 0 where
+  pub rights : ℕ
+  pub bytes : List ℕ
+
+-- The pages by number: page p has the addresses from 4,096 p on.
+abbrev pub Space : Type 0
+Space = FinMap nat_cmp Frame
+
+abbrev pub cell_in : Option Frame → ℕ → Option Cell
+cell_in None at = None
+cell_in (Some frame) at = Some (record { byte = slice_index frame.bytes at; rights = frame.rights })
+
+-- The byte at each address, with the rights of its page.
+abbrev pub memory_of : Space → Memory
+memory_of s = λ a. cell_in (get s (a / 4096)) (a % 4096)
+
+-- The pages of a run.
+abbrev pub in_run : ℕ → ℕ → ℕ → Bool
+in_run page count q = nat_le page q && nat_lt q (page + count)
+
+-- A page of zeros.
+abbrev pub blank : ℕ → Frame
+blank rights = record { rights = rights; bytes = replicate 4096 0 }
+
+-- The pages with a run of further pages of zeros.
+unfoldable pub with_run : Space → ℕ → ℕ → ℕ → Space
+with_run s page zero rights = s
+with_run s page (suc n) rights = insert (with_run s page n rights) (page + n) (blank rights)
+
+-- The pages without a run.
+unfoldable pub without_run : Space → ℕ → ℕ → Space
+without_run s page zero = s
+without_run s page (suc n) = remove (without_run s page n) (page + n)
+
+abbrev pub frame_with_rights : ℕ → ℕ → ℕ → (ℕ × Frame) → (ℕ × Frame)
+frame_with_rights page count rights e = (e.0, record { rights = (if in_run page count e.0 then rights else (e.1).rights); bytes = (e.1).bytes })
+
+-- The same pages, with other rights in a run.
+unfoldable pub protected : Space → ℕ → ℕ → ℕ → Space
+protected s page count rights = from_entries (map (frame_with_rights page count rights) (entries s))
+
+abbrev pub byte_or_zero : Option Cell → ℕ
+byte_or_zero None = 0
+byte_or_zero (Some cell) = cell.byte
+
+-- The n bytes of a memory from an address on.
+unfoldable pub bytes_from : Memory → ℕ → ℕ → List ℕ
+bytes_from m at zero = []
+bytes_from m at (suc n) = byte_or_zero (m at) ∷ bytes_from m (at + 1) n
+
+abbrev pub frame_from : Memory → (ℕ × Frame) → (ℕ × Frame)
+frame_from m e = (e.0, record { rights = (e.1).rights; bytes = bytes_from m (e.0 * 4096) 4096 })
+
+-- The same pages and rights, with the bytes that a memory has there.
+unfoldable pub with_memory : Space → Memory → Space
+with_memory s m = from_entries (map (frame_from m) (entries s))
+
+-- A page number that a process may have, with a whole page of bytes.
+pub record IsFrame (page : ℕ) (frame : Frame) : Type 0 where
+  pub above : 1 ≤ page
+  pub below : page < 2 ^ 26
+  pub whole : length frame.bytes ≡ 4096
+  pub rights : frame.rights < 8
+
+-- Each page is one that a process may have.
+pub record IsSpace (s : Space) : Type 0 where
+  pub frames : (page : ℕ) (frame : Frame) → get s page ≡ Some frame → IsFrame page frame

@@ -1,0 +1,8 @@
+//! The processor: RV64I with FENCE.I, over any memory of bytes with rights.
+#![tactic(auto)]
+
+mod cells;
+mod context;
+
+pub use cells::Cells;
+pub use context::{Context, Ended, Trap};
