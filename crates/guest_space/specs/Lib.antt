@@ -1,1 +1,4 @@
 pub mod Space
+pub mod First
+pub mod Run
+pub mod Access
