@@ -24,10 +24,10 @@ with_bytes-append m at (x ∷ xs) ys =
     with_bytes-append (with_byte_at m at x) (at + 1) xs ys
     ∙ ap (λ a. with_bytes (with_bytes (with_byte_at m at x) (at + 1) xs) a ys) (let d : at + 1 + length xs ≡ at + suc (length xs) = omega arith in d)
 
-with_byte_at_here : (m : Memory) (at byte a : ℕ) → a ≡ at → with_byte_at m at byte a ≡ cell_with (m a) byte
+pub with_byte_at_here : (m : Memory) (at byte a : ℕ) → a ≡ at → with_byte_at m at byte a ≡ cell_with (m a) byte
 with_byte_at_here m at byte a e = ap (λ b. cond b (cell_with (m a) byte) (m a)) (eq-eqb a at e)
 
-with_byte_at_there : (m : Memory) (at byte a : ℕ) → (a ≡ at → ⊥) → with_byte_at m at byte a ≡ m a
+pub with_byte_at_there : (m : Memory) (at byte a : ℕ) → (a ≡ at → ⊥) → with_byte_at m at byte a ≡ m a
 with_byte_at_there m at byte a ne = ap (λ b. cond b (cell_with (m a) byte) (m a)) (ne_eqb a at ne)
 
 -- outside the bytes that are written

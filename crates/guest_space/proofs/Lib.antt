@@ -1,4 +1,5 @@
 pub mod Gets
+pub mod Puts
 pub mod FirstSome
 pub mod Spaces
 pub mod Cells
