@@ -2,3 +2,5 @@ pub mod Order
 pub mod InPage
 pub mod Writes
 pub mod Numbers
+pub mod Gaps
+pub mod RefusalLaws

@@ -1,5 +1,5 @@
 -- Lists of pages by rising number, and the space that they make.
-use Rattle.std.specs.Prelude.{◌≡◌, ℕ, ◌<◌, ◌≤◌, List, [], ◌∷◌, map, length, slice_index_or, Some, None}
+use Rattle.std.specs.Prelude.{◌≡◌, ℕ, ◌+◌, ◌<◌, ◌≤◌, List, [], ◌∷◌, map, length, slice_index_or, Some, None}
 use Rattle.std.specs.Ordering.{nat_cmp}
 use Rattle.std.specs.FinMap.{from_entries, get}
 use Rattle.guest_space.specs.Space.{Frame, Space, IsFrame}
@@ -29,11 +29,11 @@ pub record IsPlaceOf (pages : List Page) (number place : ℕ) : Type 0 where
   pub within : place < length pages
   pub is : (d : Page) → (slice_index_or pages place d).number ≡ number
 
--- The pages before a place have lower numbers, and those from it on have higher ones.
-pub record IsGap (pages : List Page) (number place : ℕ) : Type 0 where
+-- The pages before a place have numbers below those of a run, and those from it on have numbers past it.
+pub record IsGap (pages : List Page) (number count place : ℕ) : Type 0 where
   pub within : place ≤ length pages
   pub lower : (k : ℕ) (d : Page) → k < place → (slice_index_or pages k d).number < number
-  pub higher : (k : ℕ) (d : Page) → place ≤ k → k < length pages → number < (slice_index_or pages k d).number
+  pub higher : (k : ℕ) (d : Page) → place ≤ k → k < length pages → number + count ≤ (slice_index_or pages k d).number
 
 -- The page of a number stands at a place, and the space has it.
 pub record IsFound (pages : List Page) (number place : ℕ) : Type 0 where

@@ -5,6 +5,7 @@ mod error;
 mod page;
 mod pages;
 mod place;
+mod run;
 mod word;
 
 pub use error::PageError;

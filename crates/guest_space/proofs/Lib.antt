@@ -1,5 +1,6 @@
 pub mod Gets
 pub mod Puts
+pub mod Runs
 pub mod FirstSome
 pub mod Spaces
 pub mod Cells
