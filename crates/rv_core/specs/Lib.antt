@@ -1,1 +1,4 @@
 pub mod Memory
+pub mod Listing
+pub mod Rows
+pub mod Machine

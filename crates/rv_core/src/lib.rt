@@ -3,6 +3,10 @@
 
 mod cells;
 mod context;
+mod hart;
+mod instr;
+mod rows;
 
 pub use cells::Cells;
 pub use context::{Context, Ended, Trap};
+pub use instr::{Instr, Op};

@@ -1,0 +1,133 @@
+ghost use Rattle.std.specs.Prelude.{◌≡◌, ◌<◌, ◌%◌, ◌^◌, ◌+◌};
+ghost use Rattle.std.specs.Int.{cast_unsigned, w64};
+ghost use Rattle.rv_core.specs.Memory.{Memory, IsSize};
+ghost use Rattle.rv_core.specs.Listing.{NamesRegisters};
+ghost use Rattle.rv_core.specs.Rows.{row, HasSize};
+ghost use Rattle.rv_core.specs.Machine.{register, with_register, at, next, sets, jumps, branches, loads, stores, outcome, executed, instruction, instructions, Gives, Ends};
+
+use crate::cells::Cells;
+use crate::context::{Context, Ended, Trap};
+use crate::instr::Instr;
+use crate::rows::{Effect, effect_of, extend};
+
+/// What register `n` holds.
+#[inline]
+fn read(cx: &Context, n: u8) -> u64
+    requires { n < 32 }
+    ensures { result ≡ register cx.now n }
+{
+    if n == 0 { 0 } else { cx.x[usize::from(n - 1)] }
+}
+
+/// Writes `value` to register `n`; a write to register 0 is lost.
+#[inline]
+fn write(cx: &mut Context, n: u8, value: u64)
+    requires { n < 32 }
+    ensures { cx.new ≡ with_register cx.old n value }
+{
+    if n > 0 {
+        cx.x[usize::from(n - 1)] = value;
+    }
+}
+
+/// Gives `value` to register `rd`, and goes on to the next instruction.
+#[inline]
+fn set(cx: &mut Context, rd: u8, value: u64)
+    requires { rd < 32 }
+    ensures { cx.new ≡ at (with_register cx.old rd value) (next cx.old) }
+{
+    write(cx, rd, value);
+    cx.pc = cx.pc.wrapping_add(4);
+}
+
+/// Jumps to `to`, with the address of the next instruction in register `rd`.
+#[inline]
+fn jump(cx: &mut Context, rd: u8, to: u64) -> Option<Trap>
+    requires { rd < 32 }
+    ensures { (m : Memory) → Gives (jumps cx.old m rd to) cx.old m result cx.new m }
+{
+    if to % 4 != 0 {
+        return Some(Trap {
+            cause: 0,
+            value: to,
+        });
+    }
+    write(cx, rd, cx.pc.wrapping_add(4));
+    cx.pc = to;
+    None
+}
+
+/// Loads the `size` bytes at `from` into register `rd`, as a signed number if `sign` is set.
+#[inline]
+fn load<C: Cells>(cx: &mut Context, cells: &C, rd: u8, from: u64, size: u8, sign: bool) -> Option<Trap>
+    requires rd { rd < 32 }
+    requires size { IsSize size }
+    ensures { Gives (outcome cx.old (C.memory cells.now) rd (Effect.Loads from size sign))
+        cx.old (C.memory cells.now) result cx.new (C.memory cells.now) }
+{
+    match cells.load(from, size) {
+        Some(value) => {
+            set(cx, rd, if sign { extend(value, size) } else { value });
+            None
+        }
+        None => Some(Trap {
+            cause: 5,
+            value: from,
+        }),
+    }
+}
+
+/// Stores the low `size` bytes of `value` at `to`.
+#[inline]
+fn store<C: Cells>(cx: &mut Context, cells: &mut C, to: u64, size: u8, value: u64) -> Option<Trap>
+    requires { IsSize size }
+    ensures { Gives (stores cx.old (C.memory cells.old) to size value)
+        cx.old (C.memory cells.old) result cx.new (C.memory cells.new) }
+{
+    if !cells.store(to, size, value) {
+        return Some(Trap {
+            cause: 7,
+            value: to,
+        });
+    }
+    cx.pc = cx.pc.wrapping_add(4);
+    None
+}
+
+/// Does what an instruction with the destination `rd` does.
+#[inline]
+fn apply<C: Cells>(cx: &mut Context, cells: &mut C, rd: u8, effect: Effect) -> Option<Trap>
+    requires rd { rd < 32 }
+    requires size { HasSize effect }
+    ensures { Gives (outcome cx.old (C.memory cells.old) rd effect)
+        cx.old (C.memory cells.old) result cx.new (C.memory cells.new) }
+{
+    match effect {
+        Effect::Sets(value) => {
+            set(cx, rd, value);
+            None
+        }
+        Effect::Jumps(to) => jump(cx, rd, to),
+        Effect::Branches(true, to) => jump(cx, 0, to),
+        Effect::Branches(false, _) | Effect::Nothing => {
+            cx.pc = cx.pc.wrapping_add(4);
+            None
+        }
+        Effect::Loads(from, size, sign) => load(cx, cells, rd, from, size, sign),
+        Effect::Stores(to, size, value) => store(cx, cells, to, size, value),
+        Effect::Traps(cause, value) => Some(Trap { cause, value }),
+    }
+}
+
+/// Does one instruction.
+#[inline]
+fn execute<C: Cells>(cx: &mut Context, cells: &mut C, instr: &Instr) -> Option<Trap>
+    requires { NamesRegisters instr.now }
+    ensures { Gives (executed cx.old (C.memory cells.old) instr.now)
+        cx.old (C.memory cells.old) result cx.new (C.memory cells.new) }
+{
+    let a = read(cx, instr.rs1);
+    let b = read(cx, instr.rs2);
+    let effect = effect_of(instr.op, cx.pc, instr.imm.cast_unsigned(), a, b);
+    apply(cx, cells, instr.rd, effect)
+}
