@@ -1,1 +1,5 @@
 pub mod Space
+pub mod First
+pub mod Access
+pub mod Run
+pub mod Running
