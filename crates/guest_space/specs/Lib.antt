@@ -3,3 +3,5 @@ pub mod First
 pub mod Access
 pub mod Run
 pub mod Running
+pub mod Run
+pub mod Access
