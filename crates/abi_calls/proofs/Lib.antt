@@ -1,3 +1,4 @@
 pub mod NumberMaps
 pub mod ThreadLists
 pub mod Facts
+pub mod TurnFacts
