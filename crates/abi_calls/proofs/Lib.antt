@@ -2,3 +2,6 @@ pub mod NumberMaps
 pub mod ThreadLists
 pub mod Facts
 pub mod TurnFacts
+pub mod Effects
+pub mod PositionsKept
+pub mod Sounds
