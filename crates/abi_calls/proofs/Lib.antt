@@ -4,4 +4,5 @@ pub mod Facts
 pub mod TurnFacts
 pub mod Effects
 pub mod PositionsKept
+pub mod SoundChanges
 pub mod Sounds

@@ -1,75 +1,117 @@
--- A sound world stays sound: each change to the objects, under what it needs.
-use Rattle.std.specs.Prelude.{◌≡◌, ◌≢◌, ℕ, zero, suc, ◌+◌, ◌≤◌, Bool, true, false, cond, not, ◌==◌, ◌||◌, List, [], ◌∷◌, ◌++◌, map, filter, is_some}
-use Rattle.std.specs.List.{list_all}
-use Rattle.std.specs.FinMap.{get, insert, empty}
+-- Worlds stay sound: by every call, and by every turn.
+use Rattle.std.specs.Prelude.{◌≡◌, ◌≢◌, ℕ, ◌+◌, ◌≤◌, Bool, true, false, cond, not, ◌==◌, List, [], ◌∷◌, ◌++◌, map, is_some, slice_get, remove as remove_at}
+use Rattle.std.specs.FinMap.{insert, empty}
 use Rattle.std.specs.declared.option.Option.{Option}
 use Rattle.std.specs.declared.option.Option.TheVariants.{None, Some}
-use Rattle.std.proofs.Common.{refl, sym, ap, subst, ◌∙◌, arith, eqb-true}
-use Rattle.std.proofs.lemmas.Bool.{or_cases, ne_eqb}
+use Rattle.std.proofs.Common.{refl, sym, ap, subst, ◌∙◌, arith, eq-eqb, eqb-true, inl, inr}
 use Rattle.rv_core.specs.declared.context.Context.{Context}
 use Rattle.guest_space.specs.Space.{Space}
+use Rattle.guest_space.specs.Running.{Ran as Run, run_space}
+use Rattle.abi_calls.specs.declared.call.Call.{Call}
+use Rattle.abi_calls.specs.declared.call.Call.TheVariants.{Configure}
 use Rattle.abi_calls.specs.declared.object.Object.TheVariants.{Process, Thread, Event, Stream}
-use Rattle.abi_calls.specs.Objects.{Object, Objects, object_at, running, with_object, without_handles, forgotten, without, kept, contains, is_at, IsFresh}
+use Rattle.abi_calls.specs.declared.settings.Positions.{Positions}
+use Rattle.abi_calls.specs.declared.settings.Settings.{Settings}
+use Rattle.abi_calls.specs.declared.reply.Reply.{Reply}
+use Rattle.abi_calls.specs.declared.threads.Turned.{Turned}
+use Rattle.abi_calls.specs.Objects.{Object, Objects, object_at, running, is_thread_of, with_object, without_handles, IsFresh}
+use Rattle.abi_calls.specs.World.{World, Told, Answer}
+use Rattle.abi_calls.specs.Processes.{without_threads, configured}
+use Rattle.abi_calls.specs.Turn.{turned, picked, pick_of, with_run_of, trapped}
 use Rattle.abi_calls.specs.Sound.{IsSound, is_some_thread, times, option_list, standings}
-use Rattle.abi_calls.specs.Threads.{is_resting, started}
-use Rattle.abi_calls.proofs.NumberMaps.{get_set, get_kept, get_none, get_other}
-use Rattle.abi_calls.proofs.ThreadLists.{all_append, all_weaker, all_filter, times_append, times_one, times_filter, times_without, times_contained, times_none, at_contained, option_kept}
-use Rattle.abi_calls.proofs.Facts.{live_positive}
+use Rattle.abi_calls.specs.Abi.{Abi, Answers, answer, IsNew}
+use Rattle.abi_calls.proofs.NumberMaps.{get_kept, get_same, get_other}
+use Rattle.abi_calls.proofs.ThreadLists.{all_remove, times_one, times_remove}
+use Rattle.abi_calls.proofs.Facts.{RunsIn, live_positive}
+use Rattle.abi_calls.proofs.TurnFacts.{Picks, turned_cases, home_apart}
+use Rattle.abi_calls.proofs.Effects.{Effects, is_configure, abi_has}
+use Rattle.abi_calls.proofs.SoundChanges.{Fits, sound_set, sound_without, sound_suspended, sound_ready, sound_current, sound_started, left_at, without_at, nowhere}
+pub use Rattle.abi_calls.proofs.SoundChanges.{sound_fresh}
 
--- A world with no objects and no threads is sound.
-pub sound_fresh : (o : Objects) → o.live ≡ empty → o.ready ≡ [] → o.waiting ≡ [] → o.suspended ≡ [] → o.current ≡ None → IsSound o
-sound_fresh o live ready waiting suspended current =
-    let none : (h : ℕ) → object_at o h ≡ None = λ h. ap (λ m. get m h) live ∙ get_none h in
+no_thread_runs : (x : Option Object) → is_some_thread x ≡ true → is_some (running x) ≡ true → ⊥
+no_thread_runs None thread runs = cc
+no_thread_runs (Some (Process memory code)) thread runs = cc
+no_thread_runs (Some (Thread p context)) thread runs = cc
+no_thread_runs (Some (Event set)) thread runs = cc
+no_thread_runs (Some (Stream name)) thread runs = cc
+
+-- A running process may have any pages.
+fits_pages : (o : Objects) (p : ℕ) (old new : Space) → IsSound o → running (object_at o p) ≡ Some old → Fits o p (Process new None)
+fits_pages o p old new sound runs = record {
+  positive = live_positive o p sound (λ none. absurd (let e : None ≡ Some old = ap running (sym none) ∙ runs in cc));
+  thread = λ thread. absurd (no_thread_runs (object_at o p) thread (ap is_some runs));
+  residents = λ t context is. refl;
+  home = λ q context is. absurd (cc);
+}
+
+-- A fresh number may name anything but a thread, and a thread whose process runs.
+fits_fresh : (o : Objects) (h : ℕ) (x : Object) → IsSound o → IsFresh o h → ((p : ℕ) (context : Context) → x ≡ Thread p context → is_some (running (object_at o p)) ≡ true) → Fits o h x
+fits_fresh o h x sound fresh home = record {
+  positive = fresh.positive;
+  thread = λ thread. absurd (let e : is_some_thread None ≡ true = ap is_some_thread (sym fresh.free) ∙ thread in cc);
+  residents = λ t context is. absurd (let e : is_some (running None) ≡ true = ap (λ y. is_some (running y)) (sym fresh.free) ∙ sound.homes t h context is in cc);
+  home = λ p context is. (home p context is, λ same. absurd (let e : is_some (running None) ≡ true = ap (λ y. is_some (running y)) (sym fresh.free) ∙ ap (λ q. is_some (running (object_at o q))) (sym same) ∙ home p context is in cc));
+}
+
+-- A thread may have any registers.
+fits_registers : (o : Objects) (t p : ℕ) (old new : Context) → IsSound o → object_at o t ≡ Some (Thread p old) → Fits o t (Thread p new)
+fits_registers o t p old new sound thread = record {
+  positive = live_positive o t sound (λ none. absurd (let e : None ≡ Some (Thread p old) = sym none ∙ thread in cc));
+  thread = λ _. refl;
+  residents = λ r context is. absurd (no_thread_runs (object_at o t) (ap is_some_thread thread) (sound.homes r t context is));
+  home = λ q context is.
+    let runs = sound.homes t p old thread in
+    let same : p ≡ q = cc in
+    (subst (λ k. is_some (running (object_at o k)) ≡ true) same runs, λ itself. absurd (no_thread_runs (object_at o t) (ap is_some_thread thread) (subst (λ k. is_some (running (object_at o k)) ≡ true) (same ∙ itself) runs)));
+}
+
+-- A process that exits takes its threads along.
+thread_of_idle : (p : ℕ) (x : Option Object) → is_thread_of p x ≡ true → running x ≡ None
+thread_of_idle p None is = refl
+thread_of_idle p (Some (Process memory code)) is = absurd (cc)
+thread_of_idle p (Some (Thread q context)) is = refl
+thread_of_idle p (Some (Event set)) is = refl
+thread_of_idle p (Some (Stream name)) is = refl
+
+running_no_thread_of : (p : ℕ) (x : Option Object) → is_some (running x) ≡ true → is_thread_of p x ≡ false
+running_no_thread_of p None is = refl
+running_no_thread_of p (Some (Process memory code)) is = refl
+running_no_thread_of p (Some (Thread q context)) is = absurd (cc)
+running_no_thread_of p (Some (Event set)) is = refl
+running_no_thread_of p (Some (Stream name)) is = refl
+
+sound_threadless : (o : Objects) (p : ℕ) → IsSound o → IsSound (without_threads o p)
+sound_threadless o p sound = sound_without o (λ k. is_thread_of p (object_at o k)) sound (λ k is. thread_of_idle p (object_at o k) is)
+
+fits_exited : (o : Objects) (p code : ℕ) (space : Space) → IsSound o → running (object_at o p) ≡ Some space → Fits (without_threads o p) p (Process empty (Some code))
+fits_exited o p code space sound runs =
+    let ends : ℕ → Bool = λ k. is_thread_of p (object_at o k) in
+    let there : object_at (without_threads o p) p ≡ object_at o p = without_at o ends p (running_no_thread_of p (object_at o p) (ap is_some runs)) in
     record {
-      ready = ap (list_all (λ t. is_some_thread (object_at o t))) ready;
-      waiting = waiting;
-      suspended = ap (list_all (λ t. is_some_thread (object_at o t))) suspended;
-      current = ap (λ c. list_all (λ t. is_some_thread (object_at o t)) (option_list c)) current;
-      once = λ t. let e : standings o t ≡ 0 = (λ i. times t (ready i) + (times t (map (λ w. w.thread) (waiting i)) + (times t (suspended i) + times t (option_list (current i))))) in omega arith;
-      homes = λ t p context is. absurd (let e = sym (none t) ∙ is in cc);
-      positive = none 0;
+      positive = live_positive o p sound (λ none. absurd (let e : None ≡ Some space = ap running (sym none) ∙ runs in cc));
+      thread = λ thread. absurd (no_thread_runs (object_at o p) (ap is_some_thread (sym there) ∙ thread) (ap is_some runs));
+      residents = λ t context is. absurd (
+        let left = left_at (ends t) (object_at o t) (Thread p context) (sym (get_kept o.live (λ k. not (ends k)) t) ∙ is) in
+        let itself : ends t ≡ true = ap (is_thread_of p) left.1 ∙ eq-eqb p p refl in
+        let e : true ≡ false = sym itself ∙ left.0 in
+        cc);
+      home = λ q context is. absurd (cc);
     }
 
--- An object that may come at a number: threads stay threads, what has threads still runs, and a new thread has a
--- running process that is another object.
-pub record Fits (o : Objects) (h : ℕ) (x : Object) : Type 0 where
-  pub positive : 1 ≤ h
-  pub thread : is_some_thread (object_at o h) ≡ true → is_some_thread (Some x) ≡ true
-  pub residents : (t : ℕ) (context : Context) → object_at o t ≡ Some (Thread h context) → is_some (running (Some x)) ≡ true
-  pub home : (p : ℕ) (context : Context) → x ≡ Thread p context → (is_some (running (object_at o p)) ≡ true) × (p ≢ h)
-
-thread_kept : (o : Objects) (h : ℕ) (x : Object) → Fits o h x → (t : ℕ) → is_some_thread (object_at o t) ≡ true → is_some_thread (object_at (with_object o h x) t) ≡ true
-thread_kept o h x fits t is = ap is_some_thread (get_set o.live h x t)
-    ∙ elim (t == h) as (λ b. (t == h) ≡ b → is_some_thread (cond b (Some x) (object_at o t)) ≡ true) [
-      | true ↦ λ same. fits.thread (subst (λ k. is_some_thread (object_at o k) ≡ true) (eqb-true t h same) is)
-      | false ↦ λ other. is
-    ] refl
-
-home_kept : (o : Objects) (h : ℕ) (x : Object) → IsSound o → Fits o h x → (t p : ℕ) (context : Context) → object_at o t ≡ Some (Thread p context) → is_some (running (object_at (with_object o h x) p)) ≡ true
-home_kept o h x sound fits t p context is = ap (λ y. is_some (running y)) (get_set o.live h x p)
-    ∙ elim (p == h) as (λ b. (p == h) ≡ b → is_some (running (cond b (Some x) (object_at o p))) ≡ true) [
-      | true ↦ λ same. fits.residents t context (subst (λ q. object_at o t ≡ Some (Thread q context)) (eqb-true p h same) is)
-      | false ↦ λ other. sound.homes t p context is
-    ] refl
-
-home_new : (o : Objects) (h : ℕ) (x : Object) → Fits o h x → (p : ℕ) (context : Context) → x ≡ Thread p context → is_some (running (object_at (with_object o h x) p)) ≡ true
-home_new o h x fits p context is =
-    let home = fits.home p context is in
-    ap (λ y. is_some (running y)) (get_other o.live h x p home.1) ∙ home.0
-
-homes_set : (o : Objects) (h : ℕ) (x : Object) → IsSound o → Fits o h x → (t p : ℕ) (context : Context) (b : Bool) → cond b (Some x) (object_at o t) ≡ Some (Thread p context) → is_some (running (object_at (with_object o h x) p)) ≡ true
-homes_set o h x sound fits t p context true is = home_new o h x fits p context (cc)
-homes_set o h x sound fits t p context false is = home_kept o h x sound fits t p context is
-
-pub sound_set : (o : Objects) (h : ℕ) (x : Object) → IsSound o → Fits o h x → IsSound (with_object o h x)
-sound_set o h x sound fits =
-    let threads = all_weaker _ (λ t. is_some_thread (object_at (with_object o h x) t)) (thread_kept o h x fits) in
-    record {
-      ready = threads o.ready sound.ready;
-      waiting = sound.waiting;
-      suspended = threads o.suspended sound.suspended;
-      current = threads (option_list o.current) sound.current;
-      once = sound.once;
-      homes = λ t p context is. homes_set o h x sound fits t p context (t == h) (sym (get_set o.live h x t) ∙ is);
-      positive = get_other o.live h x 0 (λ same. absurd (let p = fits.positive in omega arith)) ∙ sound.positive;
-    }
+-- Nothing that a call does makes a world unsound.
+effects : (o : Objects) → IsSound o → Effects o (λ r o'. IsNew o r → IsSound o')
+effects o sound = record {
+  stays = λ _ _. sound;
+  pages = λ p old new runs _. sound_set o p _ sound (fits_pages o p old new sound runs);
+  thread = λ h p context space runs fresh.
+    let made = with_object o h (Thread p context) in
+    let fits = fits_fresh o h (Thread p context) sound fresh (λ q cx is. let same : p ≡ q = cc in subst (λ k. is_some (running (object_at o k)) ≡ true) same (ap is_some runs)) in
+    sound_suspended made h (sound_set o h _ sound fits) (ap is_some_thread (get_same o.live h (Thread p context))) (nowhere o h sound (ap is_some_thread fresh.free));
+  starts = λ t p context thread rests _. sound_started o t sound (ap is_some_thread thread) rests;
+  registers = λ t p old new thread _. sound_set o t _ sound (fits_registers o t p old new sound thread);
+  event = λ h fresh. sound_set o h _ sound (fits_fresh o h (Event false) sound fresh (λ p context is. absurd (cc)));
+  stream = λ h name fresh. sound_set o h _ sound (fits_fresh o h (Stream name) sound fresh (λ p context is. absurd (cc)));
+  process = λ h fresh. sound_set o h _ sound (fits_fresh o h (Process empty None) sound fresh (λ p context is. absurd (cc)));
+  ends = λ h idle _. sound_without o (λ k. k == h) sound (λ k same. ap (λ q. running (object_at o q)) (eqb-true k h same) ∙ idle);
+  exits = λ p code space runs _. sound_set (without_threads o p) p _ (sound_threadless o p sound) (fits_exited o p code space sound runs);
+}
