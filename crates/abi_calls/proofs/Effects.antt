@@ -3,7 +3,7 @@ use Rattle.std.specs.Prelude.{◌≡◌, ℕ, ◌+◌, ◌==◌, Bool, true, fal
 use Rattle.std.specs.FinMap.{empty, len}
 use Rattle.std.specs.declared.option.Option.{Option}
 use Rattle.std.specs.declared.option.Option.TheVariants.{None, Some}
-use Rattle.std.proofs.Common.{refl, subst, sym, ap, ◌∙◌}
+use Rattle.std.proofs.Common.{refl, subst, ap}
 use Rattle.rv_core.specs.declared.context.Context.{Context}
 use Rattle.bas_edge.specs.Files.{file_of}
 use Rattle.guest_space.specs.Space.{Space, memory_of, with_run, bytes_from}
@@ -14,16 +14,14 @@ use Rattle.abi_calls.specs.declared.call.Call.TheVariants.{MemoryAllocate, Memor
 use Rattle.abi_calls.specs.declared.call.StreamName.{StreamName}
 use Rattle.abi_calls.specs.declared.call.StreamName.TheVariants.{File, ConIn, ConOut, ConErr}
 use Rattle.abi_calls.specs.declared.object.Object.TheVariants.{Process, Thread, Event, Stream}
-use Rattle.abi_calls.specs.declared.settings.Positions.{Positions}
-use Rattle.abi_calls.specs.declared.settings.Settings.{Settings}
 use Rattle.abi_calls.specs.declared.reply.Reply.{Reply}
 use Rattle.abi_calls.specs.declared.reply.Reply.TheVariants.{Done, Handle, Bytes, NotFound, Exists, Busy, BadAddress, NoRoom, TooBig}
-use Rattle.abi_calls.specs.Objects.{Object, Objects, object_at, running, is_thread, with_object, without_handles}
+use Rattle.abi_calls.specs.Objects.{Object, Objects, object_at, running, with_object, without_handles}
 use Rattle.abi_calls.specs.World.{World, Answer}
 use Rattle.abi_calls.specs.Memory.{with_pages, allocated, reprotected, memory_read, memory_written, unless_fault}
-use Rattle.abi_calls.specs.Threads.{is_resting, started, thread_created, thread_resumed, thread_set, event_created}
-use Rattle.abi_calls.specs.Streams.{stream_of, stream_opened, file_opened, stream_read, read_from, stream_written, written_to, stream_length}
-use Rattle.abi_calls.specs.Processes.{closed, process_created, process_exited, without_threads, configured}
+use Rattle.abi_calls.specs.Threads.{is_resting, started, thread_created, thread_resumed, thread_set}
+use Rattle.abi_calls.specs.Streams.{stream_opened, file_opened, stream_read, read_from, stream_written, written_to, stream_length}
+use Rattle.abi_calls.specs.Processes.{closed, process_exited, without_threads}
 use Rattle.abi_calls.specs.Abi.{Abi, answer, drawn}
 
 abbrev pub is_configure : Call → Bool
@@ -58,8 +56,8 @@ module _ (P : Reply → Objects → Type 0) (w : World) (e : Effects w.objects P
       let within : Answer = if nat_lt 1024 (len s + count) then (NoRoom, w) else done in
       let absent : Answer = if is_some (first_held s page count) then (Exists, w) else within in
       either (not (is_run page count && nat_le rights 7)) (BadAddress, w) absent (e.stays BadAddress)
-        (either (is_some (first_held s page count)) (Exists, w) within (e.stays Exists)
-          (either (nat_lt 1024 (len s + count)) (NoRoom, w) done (e.stays NoRoom) (e.pages p s _ is)))
+      (either (is_some (first_held s page count)) (Exists, w) within (e.stays Exists)
+      (either (nat_lt 1024 (len s + count)) (NoRoom, w) done (e.stays NoRoom) (e.pages p s _ is)))
 
   reprotected_at : (p page count rights : ℕ) (memory : Option Space) → running (object_at w.objects p) ≡ memory → At (reprotected w p page count rights memory)
   reprotected_at p page count rights None is = e.stays _
@@ -112,7 +110,7 @@ module _ (P : Reply → Objects → Type 0) (w : World) (e : Effects w.objects P
       let found = file_of w.contents.files name in
       let named : Answer = file_opened w name create exclusive h found in
       either (nat_lt 80 (length name)) (TooBig, w) (if length name == 0 then (NotFound, w) else named) (e.stays TooBig)
-        (either (length name == 0) (NotFound, w) named (e.stays NotFound) (file_at name create exclusive h found))
+      (either (length name == 0) (NotFound, w) named (e.stays NotFound) (file_at name create exclusive h found))
   opened_at ConIn create exclusive h = e.stream h ConIn
   opened_at ConOut create exclusive h = e.stream h ConOut
   opened_at ConErr create exclusive h = e.stream h ConErr

@@ -1,20 +1,18 @@
 -- A sound world stays sound: each change to the objects, under what it needs.
-use Rattle.std.specs.Prelude.{◌≡◌, ◌≢◌, ℕ, zero, suc, ◌+◌, ◌≤◌, Bool, true, false, cond, not, ◌==◌, ◌||◌, List, [], ◌∷◌, ◌++◌, map, filter, is_some}
+use Rattle.std.specs.Prelude.{◌≡◌, ◌≢◌, ℕ, ◌+◌, ◌≤◌, Bool, true, false, cond, not, ◌==◌, [], ◌∷◌, ◌++◌, map, filter, is_some}
 use Rattle.std.specs.List.{list_all}
-use Rattle.std.specs.FinMap.{get, insert, empty}
+use Rattle.std.specs.FinMap.{get, empty}
 use Rattle.std.specs.declared.option.Option.{Option}
 use Rattle.std.specs.declared.option.Option.TheVariants.{None, Some}
 use Rattle.std.proofs.Common.{refl, sym, ap, subst, ◌∙◌, arith, eqb-true, inl, inr}
 use Rattle.std.proofs.lemmas.Bool.{or_cases, and_from, not-true}
 use Rattle.rv_core.specs.declared.context.Context.{Context}
-use Rattle.guest_space.specs.Space.{Space}
-use Rattle.abi_calls.specs.declared.object.Object.TheVariants.{Process, Thread, Event, Stream}
-use Rattle.abi_calls.specs.Objects.{Object, Objects, object_at, running, with_object, without_handles, forgotten, without, kept, contains, is_at, IsFresh}
+use Rattle.abi_calls.specs.declared.object.Object.TheVariants.{Thread}
+use Rattle.abi_calls.specs.Objects.{Object, Objects, object_at, running, with_object, without_handles, forgotten, without, kept, contains, is_at}
 use Rattle.abi_calls.specs.Sound.{IsSound, is_some_thread, times, option_list, standings}
 use Rattle.abi_calls.specs.Threads.{is_resting, started}
 use Rattle.abi_calls.proofs.NumberMaps.{get_set, get_kept, get_none, get_other}
 use Rattle.abi_calls.proofs.ThreadLists.{all_append, all_weaker, all_filter, times_append, times_one, times_filter, times_without, times_contained, times_none, at_contained, option_kept}
-use Rattle.abi_calls.proofs.Facts.{live_positive}
 
 -- A world with no objects and no threads is sound.
 pub sound_fresh : (o : Objects) → o.live ≡ empty → o.ready ≡ [] → o.waiting ≡ [] → o.suspended ≡ [] → o.current ≡ None → IsSound o
@@ -105,15 +103,15 @@ sound_without o ends sound idle =
       suspended = threads o.suspended sound.suspended;
       current = ap (list_all (λ t. is_some_thread (object_at o' t))) (option_kept ends o.current) ∙ threads (option_list o.current) sound.current;
       once = λ t.
-        let none : times t (map (λ w. w.thread) o'.waiting) ≡ 0 = ap (λ ws. times t (map (λ w. w.thread) ws)) waiting in
-        let was = sound.once t in
-        let ready = times_filter t keeps o.ready in
-        let suspended = times_filter t keeps o.suspended in
-        let current : times t (option_list o'.current) ≤ times t (option_list o.current) = subst (λ xs. times t xs ≤ times t (option_list o.current)) (sym (option_kept ends o.current)) (times_filter t keeps (option_list o.current)) in
-        omega arith;
+          let none : times t (map (λ w. w.thread) o'.waiting) ≡ 0 = ap (λ ws. times t (map (λ w. w.thread) ws)) waiting in
+          let was = sound.once t in
+          let ready = times_filter t keeps o.ready in
+          let suspended = times_filter t keeps o.suspended in
+          let current : times t (option_list o'.current) ≤ times t (option_list o.current) = subst (λ xs. times t xs ≤ times t (option_list o.current)) (sym (option_kept ends o.current)) (times_filter t keeps (option_list o.current)) in
+          omega arith;
       homes = λ t p context is.
-        let there = left_at (ends t) (object_at o t) (Thread p context) (sym (get_kept o.live keeps t) ∙ is) in
-        home_runs o ends p idle (sound.homes t p context there.1) (ends p) refl;
+          let there = left_at (ends t) (object_at o t) (Thread p context) (sym (get_kept o.live keeps t) ∙ is) in
+          home_runs o ends p idle (sound.homes t p context there.1) (ends p) refl;
       positive = get_kept o.live keeps 0 ∙ ap (λ x. cond (not (ends 0)) x None) sound.positive ∙ none_either (not (ends 0));
     }
 
@@ -183,10 +181,10 @@ sound_rested o t sound =
       suspended = threads o.suspended sound.suspended;
       current = ap (list_all (λ x. is_some_thread (object_at o x))) (option_kept (λ k. k == t) o.current) ∙ threads (option_list o.current) sound.current;
       once = λ k.
-        let was = sound.once k in
-        let suspended : times k (without o.suspended t) ≤ times k o.suspended = times_filter k keeps o.suspended in
-        let current : times k (option_list (kept (λ j. j == t) o.current)) ≤ times k (option_list o.current) = subst (λ xs. times k xs ≤ times k (option_list o.current)) (sym (option_kept (λ j. j == t) o.current)) (times_filter k keeps (option_list o.current)) in
-        omega arith;
+          let was = sound.once k in
+          let suspended : times k (without o.suspended t) ≤ times k o.suspended = times_filter k keeps o.suspended in
+          let current : times k (option_list (kept (λ j. j == t) o.current)) ≤ times k (option_list o.current) = subst (λ xs. times k xs ≤ times k (option_list o.current)) (sym (option_kept (λ j. j == t) o.current)) (times_filter k keeps (option_list o.current)) in
+          omega arith;
       homes = sound.homes;
       positive = sound.positive;
     }
