@@ -4,6 +4,7 @@
 
 mod calm_sink;
 mod calm_source;
+mod calm_store;
 mod errors;
 mod shelf;
 mod sink;
@@ -12,6 +13,7 @@ mod store;
 
 pub use calm_sink::CalmSink;
 pub use calm_source::CalmSource;
+pub use calm_store::CalmStore;
 pub use errors::{EdgeError, Failed, Memory};
 pub use shelf::Shelf;
 pub use sink::Sink;
