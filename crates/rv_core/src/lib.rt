@@ -3,10 +3,15 @@
 
 mod cells;
 mod context;
+mod decoder;
+mod fields;
 mod hart;
 mod instr;
+mod opcodes;
 mod rows;
 
 pub use cells::Cells;
 pub use context::{Context, Ended, Trap};
+pub use decoder::decode;
+pub use hart::{slice, step};
 pub use instr::{Instr, Op};
