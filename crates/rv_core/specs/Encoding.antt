@@ -37,10 +37,30 @@ is_immediate (ShiftW opcode f3 f7) z = is_below 32 z
 is_immediate (Ignored opcode f3) z = is_below 1 z
 is_immediate (Whole word) z = is_below 1 z
 
-abbrev pub is_encodable : Form → Instr → Bool
-is_encodable f i = is_register (has_rd f) i.rd && is_register (has_rs1 f) i.rs1 && is_register (has_rs2 f) i.rs2 && is_immediate f i.imm
+abbrev pub has_registers : Bool → Bool → Bool → Instr → Bool
+has_registers rd rs1 rs2 i = is_register rd i.rd && is_register rs1 i.rs1 && is_register rs2 i.rs2
 
--- The bits of an immediate n, each part at its place in the word.
+abbrev pub is_encodable : Form → Instr → Bool
+is_encodable f i = has_registers (has_rd f) (has_rs1 f) (has_rs2 f) i && is_immediate f i.imm
+
+-- The bits that are the same in each word of a layout: the opcode, funct3 and funct7.
+abbrev pub fixed : Form → ℕ
+fixed (U opcode) = opcode
+fixed (J opcode) = opcode
+fixed (I opcode f3) = opcode + f3 * 2 ^ 12
+fixed (S opcode f3) = opcode + f3 * 2 ^ 12
+fixed (B opcode f3) = opcode + f3 * 2 ^ 12
+fixed (R opcode f3 f7) = opcode + f3 * 2 ^ 12 + f7 * 2 ^ 25
+fixed (Shift opcode f3 f6) = opcode + f3 * 2 ^ 12 + f6 * 2 ^ 26
+fixed (ShiftW opcode f3 f7) = opcode + f3 * 2 ^ 12 + f7 * 2 ^ 25
+fixed (Ignored opcode f3) = opcode + f3 * 2 ^ 12
+fixed (Whole word) = word
+
+-- The register fields, at their places.
+abbrev pub registers : Instr → ℕ
+registers i = i.rd * 2 ^ 7 + i.rs1 * 2 ^ 15 + i.rs2 * 2 ^ 20
+
+-- The parts of an immediate n, at their places.
 abbrev pub store_bits : ℕ → ℕ
 store_bits n = bits n 4 0 * 2 ^ 7 + bits n 11 5 * 2 ^ 25
 
@@ -50,19 +70,21 @@ branch_bits n = bits n 11 11 * 2 ^ 7 + bits n 4 1 * 2 ^ 8 + bits n 10 5 * 2 ^ 25
 abbrev pub jump_bits : ℕ → ℕ
 jump_bits n = bits n 19 12 * 2 ^ 12 + bits n 11 11 * 2 ^ 20 + bits n 10 1 * 2 ^ 21 + bits n 20 20 * 2 ^ 31
 
--- The word of an instruction under a layout: the opcode, rd, funct3, rs1, rs2 and funct7 from bits 0, 7, 12,
--- 15, 20 and 25 on.
+abbrev pub immediate_bits : Form → ℤ → ℕ
+immediate_bits (U opcode) z = unsigned_by (2 ^ 31) z
+immediate_bits (J opcode) z = jump_bits (unsigned_by (2 ^ 20) z)
+immediate_bits (I opcode f3) z = unsigned_by (2 ^ 11) z * 2 ^ 20
+immediate_bits (S opcode f3) z = store_bits (unsigned_by (2 ^ 11) z)
+immediate_bits (B opcode f3) z = branch_bits (unsigned_by (2 ^ 12) z)
+immediate_bits (R opcode f3 f7) z = 0
+immediate_bits (Shift opcode f3 f6) z = unsigned_by (2 ^ 6) z * 2 ^ 20
+immediate_bits (ShiftW opcode f3 f7) z = unsigned_by (2 ^ 5) z * 2 ^ 20
+immediate_bits (Ignored opcode f3) z = 0
+immediate_bits (Whole word) z = 0
+
+-- The word of an instruction under a layout.
 abbrev pub spelling : Form → Instr → ℕ
-spelling (U opcode) i = opcode + i.rd * 2 ^ 7 + unsigned_by (2 ^ 31) i.imm
-spelling (J opcode) i = opcode + i.rd * 2 ^ 7 + jump_bits (unsigned_by (2 ^ 20) i.imm)
-spelling (I opcode f3) i = opcode + i.rd * 2 ^ 7 + f3 * 2 ^ 12 + i.rs1 * 2 ^ 15 + unsigned_by (2 ^ 11) i.imm * 2 ^ 20
-spelling (S opcode f3) i = opcode + f3 * 2 ^ 12 + i.rs1 * 2 ^ 15 + i.rs2 * 2 ^ 20 + store_bits (unsigned_by (2 ^ 11) i.imm)
-spelling (B opcode f3) i = opcode + f3 * 2 ^ 12 + i.rs1 * 2 ^ 15 + i.rs2 * 2 ^ 20 + branch_bits (unsigned_by (2 ^ 12) i.imm)
-spelling (R opcode f3 f7) i = opcode + i.rd * 2 ^ 7 + f3 * 2 ^ 12 + i.rs1 * 2 ^ 15 + i.rs2 * 2 ^ 20 + f7 * 2 ^ 25
-spelling (Shift opcode f3 f6) i = opcode + i.rd * 2 ^ 7 + f3 * 2 ^ 12 + i.rs1 * 2 ^ 15 + unsigned_by (2 ^ 6) i.imm * 2 ^ 20 + f6 * 2 ^ 26
-spelling (ShiftW opcode f3 f7) i = opcode + i.rd * 2 ^ 7 + f3 * 2 ^ 12 + i.rs1 * 2 ^ 15 + unsigned_by (2 ^ 5) i.imm * 2 ^ 20 + f7 * 2 ^ 25
-spelling (Ignored opcode f3) i = opcode + f3 * 2 ^ 12
-spelling (Whole word) i = word
+spelling f i = fixed f + registers i + immediate_bits f i.imm
 
 abbrev pub encoded_as : Form → Instr → Option ℕ
 encoded_as f i = if is_encodable f i then Some (spelling f i) else None

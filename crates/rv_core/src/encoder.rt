@@ -1,6 +1,6 @@
 ghost use Rattle.std.specs.Prelude.{◌≡◌, ◌<◌, ◌≤◌, ◌^◌, ◌+◌, ◌-◌, IsTrue, ℕ};
-ghost use Rattle.rv_core.specs.Listing.{U, J, I, S, B, R, Shift, ShiftW, Ignored, Whole, bits, form};
-ghost use Rattle.rv_core.specs.Encoding.{is_signed_by, is_below, unsigned_by, store_bits, branch_bits, jump_bits, encoded_as, encoded};
+ghost use Rattle.rv_core.specs.Listing.{U, J, I, S, B, R, Shift, ShiftW, Ignored, Whole, NamesRegisters, bits, form};
+ghost use Rattle.rv_core.specs.Encoding.{is_signed_by, is_below, unsigned_by, has_registers, registers, store_bits, branch_bits, jump_bits, encoded_as, encoded};
 
 use crate::fields::bits;
 use crate::instr::{Instr, Op};
@@ -33,19 +33,35 @@ fn unsigned_by(half: u32, imm: i64) -> u32
     }
 }
 
+/// Whether the registers that a layout has are below 32, and the others 0.
+fn has_registers(i: &Instr, rd: bool, rs1: bool, rs2: bool) -> bool
+    ensures { result ≡ has_registers rd rs1 rs2 i.now }
+{
+    let limit = |has: bool| if has { 32 } else { 1 };
+    i.rd < limit(rd) && i.rs1 < limit(rs1) && i.rs2 < limit(rs2)
+}
+
+/// The register fields at their places.
+fn registers(i: &Instr) -> u32
+    requires { NamesRegisters i.now }
+    ensures { result ≡ registers i.now }
+{
+    u32::from(i.rd) * (1 << 7) + u32::from(i.rs1) * (1 << 15) + u32::from(i.rs2) * (1 << 20)
+}
+
 /// The word under the layout U.
 fn encode_u(i: &Instr, opcode: u32) -> Option<u32>
     requires { opcode < 2 ^ 7 }
     ensures { result ≡ encoded_as (U opcode) i.now }
 {
-    if i.rd >= 32 || i.rs1 != 0 || i.rs2 != 0 || !is_signed_by(1 << 31, i.imm) {
+    if !has_registers(i, true, false, false) || !is_signed_by(1 << 31, i.imm) {
         return None;
     }
     let n = unsigned_by(1 << 31, i.imm);
     if n % (1 << 12) != 0 {
         return None;
     }
-    Some(opcode + u32::from(i.rd) * (1 << 7) + n)
+    Some(opcode + registers(i) + n)
 }
 
 /// The word under the layout J.
@@ -53,7 +69,7 @@ fn encode_j(i: &Instr, opcode: u32) -> Option<u32>
     requires { opcode < 2 ^ 7 }
     ensures { result ≡ encoded_as (J opcode) i.now }
 {
-    if i.rd >= 32 || i.rs1 != 0 || i.rs2 != 0 || !is_signed_by(1 << 20, i.imm) {
+    if !has_registers(i, true, false, false) || !is_signed_by(1 << 20, i.imm) {
         return None;
     }
     let n = unsigned_by(1 << 20, i.imm);
@@ -64,7 +80,7 @@ fn encode_j(i: &Instr, opcode: u32) -> Option<u32>
         + bits(n, 11, 11) * (1 << 20)
         + bits(n, 10, 1) * (1 << 21)
         + bits(n, 20, 20) * (1 << 31);
-    Some(opcode + u32::from(i.rd) * (1 << 7) + distance)
+    Some(opcode + registers(i) + distance)
 }
 
 /// The word under the layout I.
@@ -73,11 +89,11 @@ fn encode_i(i: &Instr, opcode: u32, f3: u32) -> Option<u32>
     requires f3 { f3 < 2 ^ 3 }
     ensures { result ≡ encoded_as (I opcode f3) i.now }
 {
-    if i.rd >= 32 || i.rs1 >= 32 || i.rs2 != 0 || !is_signed_by(1 << 11, i.imm) {
+    if !has_registers(i, true, true, false) || !is_signed_by(1 << 11, i.imm) {
         return None;
     }
     let n = unsigned_by(1 << 11, i.imm);
-    Some(opcode + u32::from(i.rd) * (1 << 7) + f3 * (1 << 12) + u32::from(i.rs1) * (1 << 15) + n * (1 << 20))
+    Some(opcode + f3 * (1 << 12) + registers(i) + n * (1 << 20))
 }
 
 /// The word under the layout S.
@@ -86,12 +102,12 @@ fn encode_s(i: &Instr, opcode: u32, f3: u32) -> Option<u32>
     requires f3 { f3 < 2 ^ 3 }
     ensures { result ≡ encoded_as (S opcode f3) i.now }
 {
-    if i.rd != 0 || i.rs1 >= 32 || i.rs2 >= 32 || !is_signed_by(1 << 11, i.imm) {
+    if !has_registers(i, false, true, true) || !is_signed_by(1 << 11, i.imm) {
         return None;
     }
     let n = unsigned_by(1 << 11, i.imm);
     let offset = bits(n, 4, 0) * (1 << 7) + bits(n, 11, 5) * (1 << 25);
-    Some(opcode + f3 * (1 << 12) + u32::from(i.rs1) * (1 << 15) + u32::from(i.rs2) * (1 << 20) + offset)
+    Some(opcode + f3 * (1 << 12) + registers(i) + offset)
 }
 
 /// The word under the layout B.
@@ -100,7 +116,7 @@ fn encode_b(i: &Instr, opcode: u32, f3: u32) -> Option<u32>
     requires f3 { f3 < 2 ^ 3 }
     ensures { result ≡ encoded_as (B opcode f3) i.now }
 {
-    if i.rd != 0 || i.rs1 >= 32 || i.rs2 >= 32 || !is_signed_by(1 << 12, i.imm) {
+    if !has_registers(i, false, true, true) || !is_signed_by(1 << 12, i.imm) {
         return None;
     }
     let n = unsigned_by(1 << 12, i.imm);
@@ -111,7 +127,7 @@ fn encode_b(i: &Instr, opcode: u32, f3: u32) -> Option<u32>
         + bits(n, 4, 1) * (1 << 8)
         + bits(n, 10, 5) * (1 << 25)
         + bits(n, 12, 12) * (1 << 31);
-    Some(opcode + f3 * (1 << 12) + u32::from(i.rs1) * (1 << 15) + u32::from(i.rs2) * (1 << 20) + distance)
+    Some(opcode + f3 * (1 << 12) + registers(i) + distance)
 }
 
 /// The word under the layout R.
@@ -121,10 +137,10 @@ fn encode_r(i: &Instr, opcode: u32, f3: u32, f7: u32) -> Option<u32>
     requires f7 { f7 < 2 ^ 7 }
     ensures { result ≡ encoded_as (R opcode f3 f7) i.now }
 {
-    if i.rd >= 32 || i.rs1 >= 32 || i.rs2 >= 32 || i.imm != 0 {
+    if !has_registers(i, true, true, true) || i.imm != 0 {
         return None;
     }
-    Some(opcode + u32::from(i.rd) * (1 << 7) + f3 * (1 << 12) + u32::from(i.rs1) * (1 << 15) + u32::from(i.rs2) * (1 << 20) + f7 * (1 << 25))
+    Some(opcode + f3 * (1 << 12) + f7 * (1 << 25) + registers(i))
 }
 
 /// The word of a shift of 64 bits by an amount.
@@ -134,10 +150,10 @@ fn encode_shift(i: &Instr, opcode: u32, f3: u32, f6: u32) -> Option<u32>
     requires f6 { f6 < 2 ^ 6 }
     ensures { result ≡ encoded_as (Shift opcode f3 f6) i.now }
 {
-    if i.rd >= 32 || i.rs1 >= 32 || i.rs2 != 0 || !is_below(64, i.imm) {
+    if !has_registers(i, true, true, false) || !is_below(64, i.imm) {
         return None;
     }
-    Some(opcode + u32::from(i.rd) * (1 << 7) + f3 * (1 << 12) + u32::from(i.rs1) * (1 << 15) + i.imm as u32 * (1 << 20) + f6 * (1 << 26))
+    Some(opcode + f3 * (1 << 12) + f6 * (1 << 26) + registers(i) + i.imm as u32 * (1 << 20))
 }
 
 /// The word of a shift of 32 bits by an amount.
@@ -147,17 +163,17 @@ fn encode_shift_32(i: &Instr, opcode: u32, f3: u32, f7: u32) -> Option<u32>
     requires f7 { f7 < 2 ^ 7 }
     ensures { result ≡ encoded_as (ShiftW opcode f3 f7) i.now }
 {
-    if i.rd >= 32 || i.rs1 >= 32 || i.rs2 != 0 || !is_below(32, i.imm) {
+    if !has_registers(i, true, true, false) || !is_below(32, i.imm) {
         return None;
     }
-    Some(opcode + u32::from(i.rd) * (1 << 7) + f3 * (1 << 12) + u32::from(i.rs1) * (1 << 15) + i.imm as u32 * (1 << 20) + f7 * (1 << 25))
+    Some(opcode + f3 * (1 << 12) + f7 * (1 << 25) + registers(i) + i.imm as u32 * (1 << 20))
 }
 
-/// The word of an instruction with no field of its own.
+/// The word of an instruction without fields.
 fn encode_fixed(i: &Instr, word: u32) -> Option<u32>
     ensures { result ≡ encoded_as (Whole word) i.now }
 {
-    if i.rd != 0 || i.rs1 != 0 || i.rs2 != 0 || i.imm != 0 {
+    if !has_registers(i, false, false, false) || i.imm != 0 {
         return None;
     }
     Some(word)
