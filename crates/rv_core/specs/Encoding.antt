@@ -1,6 +1,6 @@
 -- Which instructions have a spelling as a word of 32 bits, and which word it is (RISC-V Unprivileged ISA,
 -- "Base Instruction Formats" and "Immediate Encoding Variants").
-use Rattle.std.specs.Prelude.{◌≡◌, ℕ, suc, ◌+◌, ◌-◌, ◌*◌, ◌%◌, ◌^◌, ◌==◌, Bool, true, false, ◌&&◌, if◌then◌else◌, nat_lt, Option, Some, None, ℤ, pos, negsuc, ◌⊎◌}
+use Rattle.std.specs.Prelude.{◌≡◌, ℕ, suc, ◌+◌, ◌-◌, ◌*◌, ◌%◌, ◌^◌, ◌==◌, Bool, false, ◌&&◌, if◌then◌else◌, nat_lt, Option, Some, None, ℤ, pos, negsuc, ◌⊎◌}
 use Rattle.rv_core.specs.declared.instr.Op.{Op}
 use Rattle.rv_core.specs.declared.instr.Op.TheVariants as op
 use Rattle.rv_core.specs.declared.instr.Instr.{Instr}

@@ -1,6 +1,7 @@
 ghost use Rattle.std.specs.Prelude.{◌≡◌, IfSome, IsTrue};
 ghost use Rattle.rv_core.specs.declared.instr.Op.{Op};
 ghost use Rattle.rv_core.specs.Listing.{Decodes, NamesRegisters, decoded, form, has_form};
+ghost use Rattle.rv_core.specs.Encoding.{encoded, IsFence};
 
 use crate::fields::fields_of;
 use crate::instr::Instr;
@@ -13,6 +14,7 @@ pub fn decode(word: u32) -> Option<Instr>
     ensures listing { Decodes word result }
     ensures unique { (o : Op) → IsTrue (has_form word (form o)) → IfSome result (λ i. i.op ≡ o) }
     ensures registers { IfSome result NamesRegisters }
+    ensures inverse { IfSome result (λ i. ¬ IsFence i.op → encoded i ≡ Some word) }
 {
     match op_of(word) {
         Some(op) => Some(fields_of(word, op)),

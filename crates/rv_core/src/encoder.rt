@@ -1,5 +1,5 @@
-ghost use Rattle.std.specs.Prelude.{◌≡◌, ◌<◌, ◌≤◌, ◌^◌, ◌+◌, ◌-◌, IsTrue, ℕ};
-ghost use Rattle.rv_core.specs.Listing.{U, J, I, S, B, R, Shift, ShiftW, Ignored, Whole, NamesRegisters, bits, form};
+ghost use Rattle.std.specs.Prelude.{◌≡◌, ◌<◌, ◌≤◌, ◌^◌, ◌+◌, ◌-◌, IsTrue, IfSome};
+ghost use Rattle.rv_core.specs.Listing.{U, J, I, S, B, R, Shift, ShiftW, Ignored, Whole, NamesRegisters, bits, form, decoded};
 ghost use Rattle.rv_core.specs.Encoding.{is_signed_by, is_below, unsigned_by, has_registers, registers, store_bits, branch_bits, jump_bits, encoded_as, encoded};
 
 use crate::fields::bits;
@@ -179,9 +179,8 @@ fn encode_fixed(i: &Instr, word: u32) -> Option<u32>
     Some(word)
 }
 
-/// The word that spells `instr`; `None` exactly where a field is out of range, or one that the instruction
-/// doesn't have isn't 0.
-pub fn encode(instr: &Instr) -> Option<u32>
+/// The word under the layout of the instruction.
+fn encode_by_layout(instr: &Instr) -> Option<u32>
     ensures { result ≡ encoded_as (form instr.now.op) instr.now }
 {
     match instr.op {
@@ -239,4 +238,14 @@ pub fn encode(instr: &Instr) -> Option<u32>
         Op::Ecall => encode_fixed(instr, 0x0000_0073),
         Op::Ebreak => encode_fixed(instr, 0x0010_0073),
     }
+}
+
+/// The word that spells `instr`; `None` exactly where a field is out of range, or one that the instruction
+/// doesn't have isn't 0. The word decodes to `instr`.
+#[tactic(auto, unfolding(crate::specs::Encoding::encoded))]
+pub fn encode(instr: &Instr) -> Option<u32>
+    ensures value { result ≡ encoded instr.now }
+    ensures inverse { IfSome result (λ word. decoded word ≡ Some instr.now) }
+{
+    encode_by_layout(instr)
 }
