@@ -1,0 +1,3 @@
+pub mod NumberMaps
+pub mod ThreadLists
+pub mod Facts
