@@ -3,5 +3,3 @@ pub mod First
 pub mod Access
 pub mod Run
 pub mod Running
-pub mod Run
-pub mod Access
