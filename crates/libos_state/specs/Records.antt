@@ -73,7 +73,7 @@ abbrev pub process_seen : Live → ProcessNote → mono.Process
 process_seen live n = process_if n.code (memory_of_object (get {R = nat_cmp} live n.handle)) n.descriptors
 
 abbrev pub no_context : Context
-no_context = record { pc = 0; x = [] }
+no_context = record { pc = 0; x = replicate 31 0 }
 
 -- The registers of a thread's object.
 abbrev pub context_of : Option Object → Context
