@@ -1,4 +1,5 @@
 pub mod NumberMaps
+pub mod Counts
 pub mod ThreadLists
 pub mod Facts
 pub mod TurnFacts
