@@ -7,3 +7,4 @@ pub mod Effects
 pub mod PositionsKept
 pub mod SoundChanges
 pub mod Sounds
+pub mod Worked
