@@ -1,5 +1,5 @@
 -- Worked examples: what the definitions say of small worlds.
-use Rattle.std.specs.Prelude.{◌≡◌, ℕ, ◌+◌, ◌==◌, true, false, ◌||◌, if◌then◌else◌, nat_lt, is_some, List, [], ◌∷◌, ◌++◌, replicate, take, drop}
+use Rattle.std.specs.Prelude.{◌≡◌, ℕ, ◌+◌, ◌==◌, true, false, ◌||◌, if◌then◌else◌, nat_lt, nat_le, is_some, List, [], ◌∷◌, ◌++◌, replicate, take, drop}
 use Rattle.std.specs.Option.{option_or}
 use Rattle.std.specs.FinMap.{insert, empty, len, len-empty}
 use Rattle.std.specs.Ordering.{nat_cmp}
@@ -14,21 +14,24 @@ use Rattle.guest_space.specs.Running.{run_space, ran_from}
 use Rattle.guest_space.specs.First.{first_some}
 use Rattle.guest_space.specs.Run.{first_held}
 use Rattle.bas_edge.specs.Files.{file_of}
-use Rattle.abi_calls.specs.declared.call.Call.TheVariants.{MemoryAllocate, ThreadResume, EventCreate, StreamOpen, StreamRead, StreamWrite, Close, ProcessExit}
+use Rattle.abi_calls.specs.declared.call.Call.TheVariants.{MemoryAllocate, ThreadResume, EventCreate, StreamOpen, StreamRead, StreamWrite, Close, ProcessCreate, ProcessExit}
 use Rattle.abi_calls.specs.declared.call.StreamName.TheVariants.{File, ConIn, ConOut}
 use Rattle.abi_calls.specs.declared.object.Object.TheVariants.{Process, Thread, Event, Stream}
 use Rattle.abi_calls.specs.declared.settings.Settings.{Settings}
 use Rattle.abi_calls.specs.declared.reply.Reply.{Reply}
 use Rattle.abi_calls.specs.declared.reply.Reply.TheVariants.{Done, Handle, Bytes, Count, BadHandle, NotFound, Exists, Busy, NoAccess, BadAddress, NoRoom, TooBig}
 use Rattle.abi_calls.specs.declared.threads.Turned.TheVariants.{Stuck, Exception}
-use Rattle.abi_calls.specs.Objects.{Objects, Live, object_at, running, is_at, contains, with_object, without_handles}
+use Rattle.abi_calls.specs.Objects.{is_process, Objects, Live, object_at, running, is_at, contains, with_object, without_handles}
 use Rattle.abi_calls.specs.World.{World, Answer, with_objects, with_contents}
 use Rattle.abi_calls.specs.Memory.{allocated, with_pages}
 use Rattle.abi_calls.specs.Threads.{is_resting, started, thread_resumed}
 use Rattle.abi_calls.specs.Streams.{stream_of, file_opened, stream_read, stream_written}
 use Rattle.abi_calls.specs.Processes.{closed, process_exited, without_threads}
 use Rattle.abi_calls.specs.Turn.{turned, picked, run_thread, run_in, after_run}
-use Rattle.abi_calls.specs.Abi.{answer, drawn}
+use Rattle.abi_calls.specs.Abi.{Abi, answer, drawn}
+use Rattle.abi_calls.specs.Sound.{IsSound}
+use Rattle.abi_calls.proofs.Counts.{count_empty}
+use Rattle.abi_calls.proofs.Sounds.{sound_abi, sound_fresh}
 use Rattle.abi_calls.proofs.NumberMaps.{get_none, get_same, get_other}
 
 -- ---- a process: its first page, and its exit
@@ -177,3 +180,20 @@ turn_leaves_ready = ap (λ x. x.1.ready) (picked_runs ∙ ap (λ run. after_run 
 
 turn_leaves_current : (turned two_ready).1.current ≡ Some 3
 turn_leaves_current = ap (λ x. x.1.current) (picked_runs ∙ ap (λ run. after_run (picked two_ready 1) 3 1 (ran_from empty run)) first_run)
+
+-- ---- a fresh world: its first process, at the handle 1, after which the world is sound
+
+abbrev first_world : World
+first_world = record { objects = resting; contents = record { files = empty; input = []; output = []; errors = [] } }
+
+abbrev second_world : World
+second_world = with_objects first_world (with_object resting 1 (Process empty None))
+
+first_process : Abi first_world ProcessCreate (Handle 1) second_world
+first_process = record {
+  new = record { positive = omega arith; free = get_none 1; unlisted = refl };
+  row = ap (λ n. if nat_le 16 n then (NoRoom, first_world) else (Handle 1, second_world)) (count_empty is_process);
+}
+
+first_sound : IsSound second_world.objects
+first_sound = sound_abi first_world second_world ProcessCreate (Handle 1) (sound_fresh resting refl refl refl refl refl) first_process
