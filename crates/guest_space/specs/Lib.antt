@@ -1,4 +1,5 @@
 pub mod Space
 pub mod First
-pub mod Run
 pub mod Access
+pub mod Run
+pub mod Running

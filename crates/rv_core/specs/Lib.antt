@@ -1,1 +1,6 @@
 pub mod Memory
+pub mod Listing
+pub mod Rows
+pub mod Machine
+pub mod Opcodes
+pub mod Encoding

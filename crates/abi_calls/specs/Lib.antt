@@ -1,0 +1,10 @@
+pub mod Objects
+pub mod World
+pub mod Memory
+pub mod Threads
+pub mod Streams
+pub mod Processes
+pub mod Abi
+pub mod Turn
+pub mod Sound
+pub mod Fresh

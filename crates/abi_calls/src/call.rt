@@ -1,0 +1,102 @@
+use crate::settings::{Positions, Settings};
+use bas_items::Items;
+use rv_core::Context;
+
+/// What a stream is opened on.
+#[derive(Debug, Drop)]
+pub enum StreamName {
+    /// A file, by the bytes of its name.
+    File(Items<u8>),
+    /// The console's input.
+    ConIn,
+    /// The console's output.
+    ConOut,
+    /// The console's errors.
+    ConErr,
+}
+
+/// A call of the host's interface. Handles are numbers of at least 1; rights are 1 to read, 2 to write and
+/// 4 to run, added up; a page has 4,096 bytes.
+#[derive(Debug, Drop)]
+pub enum Call {
+    /// Makes pages of zeros.
+    MemoryAllocate {
+        process: u64,
+        page: u64,
+        count: u64,
+        rights: u8,
+    },
+    /// Gives pages other rights.
+    MemoryProtect {
+        process: u64,
+        page: u64,
+        count: u64,
+        rights: u8,
+    },
+    /// Reads bytes that can be read.
+    MemoryRead {
+        process: u64,
+        address: u64,
+        count: u64,
+    },
+    /// Writes bytes that can be written.
+    MemoryWrite {
+        process: u64,
+        address: u64,
+        bytes: Items<u8>,
+    },
+    /// Makes a suspended thread.
+    ThreadCreate {
+        process: u64,
+        context: Context,
+    },
+    /// Makes a suspended or current thread ready.
+    ThreadResume {
+        thread: u64,
+    },
+    /// Sets the registers of a suspended or current thread.
+    ThreadContext {
+        thread: u64,
+        context: Context,
+    },
+    /// Makes an event that isn't set.
+    EventCreate,
+    /// Opens a file or an end of the console.
+    StreamOpen {
+        name: StreamName,
+        create: bool,
+        exclusive: bool,
+    },
+    /// Reads up to `count` bytes, of a file from `offset` on.
+    StreamRead {
+        stream: u64,
+        offset: u64,
+        count: u64,
+    },
+    /// Writes bytes, into a file from `offset` on.
+    StreamWrite {
+        stream: u64,
+        offset: u64,
+        bytes: Items<u8>,
+    },
+    /// Asks for the length of a file.
+    StreamLength {
+        stream: u64,
+    },
+    /// Ends the handle of an event, a stream or a process that has exited.
+    Close {
+        handle: u64,
+    },
+    /// Makes a process without memory.
+    ProcessCreate,
+    /// Ends a process with its memory and its threads.
+    ProcessExit {
+        process: u64,
+        code: u8,
+    },
+    /// Sets the settings and the positions, before the first turn.
+    Configure {
+        settings: Settings,
+        positions: Positions,
+    },
+}

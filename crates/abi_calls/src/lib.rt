@@ -1,0 +1,16 @@
+//! The calls of the host's interface and their replies, the worlds that they act on, and the trait of a host.
+#![tactic(auto)]
+
+mod call;
+mod host;
+mod object;
+mod reply;
+mod settings;
+mod threads;
+
+pub use call::{Call, StreamName};
+pub use host::{Crossing, Host, HostError};
+pub use object::Object;
+pub use reply::Reply;
+pub use settings::{Positions, Settings};
+pub use threads::{Turned, Upcall};

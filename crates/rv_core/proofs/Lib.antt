@@ -1,0 +1,5 @@
+mod Examples
+pub mod Names
+pub mod Read
+pub mod Signs
+pub mod Spelled

@@ -1,0 +1,210 @@
+ghost use Rattle.std.specs.Prelude.{◌≡◌, ◌<◌, ◌%◌, ◌-◌, ◌||◌, ◌↔◌, [], ◌∷◌, ◌++◌, length, max, slice_get, remove, IsSome, IsNone, IfSome, IfNone, OnOk, OnErr};
+ghost use Rattle.std.specs.Bool.{OnTrue, OnFalse};
+ghost use Rattle.turn_sched.specs.Lists.{contains, without, is_at, other_than};
+
+use crate::keys::{put_last, take_current, take_out};
+use bas_edge::Memory;
+use std::alloc::Global;
+use std::marker::Model;
+
+/// Where each thread stands, by its number: ready, waiting or suspended, each list in order, or current.
+/// After `reserve` nothing takes memory.
+#[derive(Drop)]
+pub struct Schedule {
+    ready: Vec<u64>,
+    waiting: Vec<u64>,
+    suspended: Vec<u64>,
+    current: Option<u64>,
+    spare: usize,
+}
+
+impl Model for Schedule {
+    ghost use Rattle.std.specs.Prelude.{◌+◌, vec_len, vec_capacity};
+    ghost use Rattle.turn_sched.specs.Lists.{Lists, HasRoom, count_of};
+
+    ghost Value = { Lists };
+
+    ghost view = { λ s. record { ready = s.ready.items; waiting = s.waiting.items; suspended = s.suspended.items; current = s.current; spare = s.spare } };
+
+    ghost invariant = { λ s. HasRoom (vec_len s.ready + vec_len s.waiting + vec_len s.suspended + count_of s.current + s.spare) (vec_capacity s.ready) (vec_capacity s.waiting) (vec_capacity s.suspended) };
+}
+
+impl Schedule {
+    /// A schedule without threads. Takes no memory.
+    pub fn new(alloc: Global) -> Schedule
+        ensures { result ≡ record { ready = []; waiting = []; suspended = []; current = None; spare = 0 } }
+    {
+        Schedule {
+            ready: Vec::new(alloc),
+            waiting: Vec::new(alloc),
+            suspended: Vec::new(alloc),
+            current: None,
+            spare: 0,
+        }
+    }
+
+    /// Makes room for `more` further threads.
+    pub fn reserve(&mut self, more: u64) -> Result<(), Memory>
+        ensures ok { OnOk result (self.new ≡ record self.old { spare = max self.old.spare more }) }
+        ensures err { OnErr result (self.new ≡ self.old) }
+    {
+        let more = more as usize;
+        if more <= self.spare {
+            return Ok(());
+        }
+        let current = usize::from(self.current.is_some());
+        let threads = self.ready.len() + self.waiting.len() + self.suspended.len() + current;
+        let Some(places) = threads.checked_add(more) else {
+            return Err(Memory);
+        };
+        self.ready.reserve(places - self.ready.len())?;
+        self.waiting.reserve(places - self.waiting.len())?;
+        self.suspended.reserve(places - self.suspended.len())?;
+        self.spare = more;
+        Ok(())
+    }
+
+    /// Adds a thread at the end of the suspended ones.
+    pub fn add(&mut self, key: u64)
+        requires { 0 < self.old.spare }
+        ensures { self.new ≡ record self.old { suspended = self.old.suspended ++ key ∷ []; spare = self.old.spare - 1 } }
+    {
+        self.spare -= 1;
+        put_last(&mut self.suspended, key);
+    }
+
+    /// Moves a suspended or current thread to the end of the ready ones; `false` where it is neither.
+    pub fn start(&mut self, key: u64) -> bool
+        ensures found { result ≡ (contains self.old.suspended key || is_at key self.old.current) }
+        ensures started { OnTrue result (self.new ≡ record self.old { suspended = without self.old.suspended key; current = other_than key self.old.current; ready = self.old.ready ++ key ∷ [] }) }
+        ensures same { OnFalse result (self.new ≡ self.old) }
+    {
+        let rests = take_out(&mut self.suspended, key) | take_current(&mut self.current, key);
+        if !rests {
+            return false;
+        }
+        put_last(&mut self.ready, key);
+        true
+    }
+
+    /// Moves the current thread to the end of the waiting ones; `false` where another is current, or none.
+    pub fn wait(&mut self, key: u64) -> bool
+        ensures found { result ≡ is_at key self.old.current }
+        ensures waits { OnTrue result (self.new ≡ record self.old { current = None; waiting = self.old.waiting ++ key ∷ [] }) }
+        ensures same { OnFalse result (self.new ≡ self.old) }
+    {
+        if self.current != Some(key) {
+            return false;
+        }
+        self.current = None;
+        put_last(&mut self.waiting, key);
+        true
+    }
+
+    /// Moves a waiting thread to the end of the ready ones; `false` where it doesn't wait.
+    pub fn wake(&mut self, key: u64) -> bool
+        ensures found { result ≡ contains self.old.waiting key }
+        ensures woken { OnTrue result (self.new ≡ record self.old { waiting = without self.old.waiting key; ready = self.old.ready ++ key ∷ [] }) }
+        ensures same { OnFalse result (self.new ≡ self.old) }
+    {
+        if !take_out(&mut self.waiting, key) {
+            return false;
+        }
+        put_last(&mut self.ready, key);
+        true
+    }
+
+    /// Takes a thread out of the schedule, wherever it stands; `false` where it stands nowhere.
+    pub fn leave(&mut self, key: u64) -> bool
+        ensures found { result ≡ (contains self.old.ready key || (contains self.old.waiting key || (contains self.old.suspended key || is_at key self.old.current))) }
+        ensures left { self.new ≡ record self.old { ready = without self.old.ready key; waiting = without self.old.waiting key; suspended = without self.old.suspended key; current = other_than key self.old.current } }
+        ensures same { OnFalse result (self.new ≡ self.old) }
+    {
+        let was_ready = take_out(&mut self.ready, key);
+        let waited = take_out(&mut self.waiting, key);
+        let was_suspended = take_out(&mut self.suspended, key);
+        let was_current = take_current(&mut self.current, key);
+        was_ready | (waited | (was_suspended | was_current))
+    }
+
+    /// The ready thread at a place, counted from 0; `None` past the end.
+    pub fn ready_at(&self, place: usize) -> Option<u64>
+        ensures { result ≡ slice_get self.now.ready place }
+    {
+        self.ready.get(place).copied()
+    }
+
+    /// The waiting thread at a place, counted from 0; `None` past the end.
+    pub fn waiting_at(&self, place: usize) -> Option<u64>
+        ensures { result ≡ slice_get self.now.waiting place }
+    {
+        self.waiting.get(place).copied()
+    }
+
+    /// The suspended thread at a place, counted from 0; `None` past the end.
+    pub fn suspended_at(&self, place: usize) -> Option<u64>
+        ensures { result ≡ slice_get self.now.suspended place }
+    {
+        self.suspended.get(place).copied()
+    }
+
+    /// The current thread.
+    pub fn current(&self) -> Option<u64>
+        ensures { result ≡ self.now.current }
+    {
+        self.current
+    }
+
+    /// Makes the ready thread at place `word`, modulo how many are ready, the current one; `None` where none is
+    /// ready.
+    pub fn pick(&mut self, word: u64) -> Option<u64>
+        requires { self.old.current ≡ None }
+        ensures picked { result ≡ slice_get self.old.ready (word % length self.old.ready) }
+        ensures some { IfSome result (λ key. self.new ≡ record self.old { ready = remove self.old.ready (word % length self.old.ready); current = Some key }) }
+        ensures none { IfNone result (self.new ≡ self.old) }
+        ensures nothing { IsNone result ↔ (self.old.ready ≡ []) }
+    {
+        if self.ready.is_empty() {
+            return None;
+        }
+        let place = (word % self.ready.len() as u64) as usize;
+        let key = self.ready.remove(place);
+        self.current = Some(key);
+        Some(key)
+    }
+
+    /// Puts the current thread at the end of the ready ones.
+    pub fn back(&mut self)
+        requires { IsSome self.old.current }
+        ensures { IfSome self.old.current (λ key. self.new ≡ record self.old { ready = self.old.ready ++ key ∷ []; current = None }) }
+    {
+        let Some(key) = self.current else {
+            unreachable!();
+        };
+        self.current = None;
+        put_last(&mut self.ready, key);
+    }
+}
+
+#[cfg(test)]
+mod tests {
+    use super::*;
+    use std::test::Fail;
+
+    #[test]
+    fn threads_keep_their_order(rt: HostRuntime) -> Result<(), Fail> {
+        let mut schedule = Schedule::new(rt.alloc());
+        schedule.reserve(3)?;
+        schedule.add(7);
+        schedule.add(8);
+        schedule.add(9);
+        schedule.start(9);
+        schedule.start(7);
+        assert_eq!(rt; schedule.pick(3), Some(7));
+        schedule.back();
+        assert_eq!(rt; schedule.ready_at(0), Some(9));
+        assert_eq!(rt; schedule.ready_at(1), Some(7));
+        assert_eq!(rt; schedule.suspended_at(0), Some(8));
+        Ok(())
+    }
+}
