@@ -4,3 +4,5 @@ pub mod Writes
 pub mod Numbers
 pub mod Gaps
 pub mod RefusalLaws
+pub mod Accesses
+pub mod Copies

@@ -1,5 +1,5 @@
 -- Other bytes in a page of a list, and what the memory then is.
-use Rattle.std.proofs.Common.{◌≡◌, ℕ, suc, ◌+◌, ◌-◌, ◌/◌, ◌%◌, ◌^◌, ◌<◌, ◌≤◌, true, cond, List, length, get_or, set, sym, ap, ◌∙◌, arith}
+use Rattle.std.proofs.Common.{◌≡◌, ℕ, suc, ◌+◌, ◌-◌, ◌/◌, ◌%◌, ◌^◌, ◌<◌, ◌≤◌, true, cond, List, [], length, get_or, set, sym, ap, ◌∙◌, arith}
 use Rattle.std.proofs.lemmas.List.{length-set}
 use Rattle.std.specs.Int.Bits.{bit_and}
 use Rattle.std.specs.Option.{is_some}
@@ -83,3 +83,10 @@ pub space_of-with_rights : (ps : List Page) (q i rights : ℕ) (d : Page) → Ar
 space_of-with_rights ps q i rights d order found =
     space_of-set 0 ps i (with_page_rights (get_or ps i d) rights) order found.within (λ e. found.is e ∙ sym (found.is d))
     ∙ ap (λ k. insert (space_of ps) k (with_frame_rights rights (frame_of (get_or ps i d)))) (found.is d)
+
+pub found_below : (ps : List Page) (q i : ℕ) → AreInOrder ps → IsFound ps q i → q < 2 ^ 26
+found_below ps q i order found =
+    let d : Page = record { number = 0; rights = 0; bytes = [] } in
+    let below = (IsFrame-at 0 ps i d order found.within).below in
+    let same = found.is d in
+    omega arith

@@ -1,8 +1,9 @@
 -- Lists of pages by rising number, and the space that they make.
-use Rattle.std.specs.Prelude.{◌≡◌, ℕ, ◌+◌, ◌<◌, ◌≤◌, List, [], ◌∷◌, map, length, slice_index_or, Some, None}
+use Rattle.std.specs.Prelude.{◌≡◌, ℕ, ◌+◌, ◌^◌, ◌<◌, ◌≤◌, List, [], ◌∷◌, map, length, slice_index_or, Some, None}
 use Rattle.std.specs.Ordering.{nat_cmp}
 use Rattle.std.specs.FinMap.{from_entries, get}
-use Rattle.guest_space.specs.Space.{Frame, Space, IsFrame}
+use Rattle.guest_space.specs.Space.{Frame, Space, IsFrame, memory_of}
+use Rattle.guest_space.specs.Access.{first_fault}
 use Rattle.guest_memory.specs.declared.page.Page.{Page}
 
 abbrev pub frame_of : Page → Frame
@@ -43,3 +44,8 @@ pub record IsFound (pages : List Page) (number place : ℕ) : Type 0 where
 
 abbrev pub IsAbsent : List Page → ℕ → Type 0
 IsAbsent pages number = get (space_of pages) number ≡ None
+
+-- The n bytes from an address on are there.
+pub record AreThere (s : Space) (at n : ℕ) : Type 0 where
+  pub end : at + n < 2 ^ 64
+  pub there : first_fault (memory_of s) 0 at n ≡ None

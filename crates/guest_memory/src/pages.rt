@@ -1,15 +1,22 @@
-ghost use Rattle.std.specs.Prelude.{◌≡◌, ◌↔◌, IfErr, IsTrue, OnErr, OnOk, unwrap_or, None};
+ghost use Rattle.std.specs.Prelude.{◌≡◌, ◌↔◌, IfErr, IsTrue, OnErr, OnOk, length, unwrap_or, None, ◌*◌};
+ghost use Rattle.std.specs.Option.{option_map};
 ghost use Rattle.std.specs.Result.{result_err};
 ghost use Rattle.std.specs.FinMap as map;
-ghost use Rattle.guest_space.specs.Space.{IsSpace, memory_of, protected, with_run, without_run};
-ghost use Rattle.guest_memory.specs.Refusals.{allocate_refusal, free_refusal, protect_refusal};
+ghost use Rattle.rv_core.specs.Machine.{trap_of};
+ghost use Rattle.guest_space.specs.Space.{IsSpace, bytes_from, memory_of, protected, with_memory, with_run, without_run};
+ghost use Rattle.guest_space.specs.Access.{first_fault, with_bytes};
+ghost use Rattle.guest_space.specs.Running.{run_space};
+ghost use Rattle.guest_memory.specs.Refusals.{access_refusal, allocate_refusal, fault_of_error, free_refusal, pages_refusal, protect_refusal};
 
+use crate::access::{copy_in, copy_out, refused_access};
 use crate::error::PageError;
-use crate::page::{ALL_RIGHTS, MOST_PAGES, Page, READ, RUN};
+use crate::page::{ALL_RIGHTS, MOST_PAGES, PAGE_SIZE, Page, READ, RUN, WRITE};
 use crate::place::{HINTS, Hints, note_places};
-use crate::run::{insert_run, is_page_run, missing_page, place_for, protect_run, remove_run};
+use crate::run::{
+    insert_run, is_page_run, missing_page, place_for, protect_run, refused_pages, remove_run,
+};
 use crate::word::{number_with, put};
-use rv_core::Cells;
+use rv_core::{Cells, Context, Ended, slice};
 use std::alloc::Global;
 use std::marker::Model;
 
@@ -152,5 +159,107 @@ impl Pages {
         }
         protect_run(&mut self.pages, &self.hints, page, count, rights);
         Ok(())
+    }
+
+    /// Reads the bytes at `at` into a buffer, each of which must have the right to read. Takes no memory; after
+    /// an `Err` the buffer is as before. To read no bytes is granted wherever they would be.
+    ///
+    /// # Errors
+    /// `Unmapped` and `Denied`, by the first page that isn't there or lacks the right.
+    pub fn read(&self, at: u64, buf: &mut [u8]) -> Result<(), PageError>
+        ensures cause { result_err result ≡ access_refusal (memory_of self.now) 1 at (length buf.old) }
+        ensures fault { option_map fault_of_error (result_err result)
+            ≡ first_fault (memory_of self.now) 1 at (length buf.old) }
+        ensures ok { OnOk result (buf.new ≡ bytes_from (memory_of self.now) at (length buf.old)) }
+        ensures err { OnErr result (buf.new ≡ buf.old) }
+    {
+        match refused_access(&self.pages, &self.hints, at, buf.len(), READ) {
+            Some(error) => Err(error),
+            None => {
+                copy_out(&self.pages, &self.hints, at, buf);
+                Ok(())
+            }
+        }
+    }
+
+    /// Writes bytes at `at`, each of which must have the right to write. Takes no memory; after an `Err` all is
+    /// as before. To write no bytes is granted wherever they would be.
+    ///
+    /// # Errors
+    /// `Unmapped` and `Denied`, by the first page that isn't there or lacks the right.
+    pub fn write(&mut self, at: u64, bytes: &[u8]) -> Result<(), PageError>
+        ensures cause { result_err result
+            ≡ access_refusal (memory_of self.old) 2 at (length bytes.now) }
+        ensures fault { option_map fault_of_error (result_err result)
+            ≡ first_fault (memory_of self.old) 2 at (length bytes.now) }
+        ensures ok { OnOk result
+            (self.new ≡ with_memory self.old (with_bytes (memory_of self.old) at bytes.now)) }
+        ensures err { OnErr result (self.new ≡ self.old) }
+    {
+        match refused_access(&self.pages, &self.hints, at, bytes.len(), WRITE) {
+            Some(error) => Err(error),
+            None => {
+                copy_in(&mut self.pages, &self.hints, at, bytes);
+                Ok(())
+            }
+        }
+    }
+
+    /// Reads whole pages from page `page` on into a buffer, whatever their rights. Takes no memory; after an
+    /// `Err` the buffer is as before.
+    ///
+    /// # Errors
+    /// `Range` where the buffer's length isn't one of whole pages, and `Unmapped` with the first page that
+    /// isn't there.
+    pub fn peek(&self, page: u64, buf: &mut [u8]) -> Result<(), PageError>
+        ensures cause { result_err result ≡ pages_refusal self.now page (length buf.old) }
+        ensures ok { OnOk result
+            (buf.new ≡ bytes_from (memory_of self.now) (page * 4096) (length buf.old)) }
+        ensures err { OnErr result (buf.new ≡ buf.old) }
+    {
+        match refused_pages(&self.pages, &self.hints, page, buf.len()) {
+            Some(error) => Err(error),
+            None => {
+                if !buf.is_empty() {
+                    copy_out(&self.pages, &self.hints, page * PAGE_SIZE as u64, buf);
+                }
+                Ok(())
+            }
+        }
+    }
+
+    /// Writes whole pages from page `page` on, whatever their rights. Takes no memory; after an `Err` all is as
+    /// before.
+    ///
+    /// # Errors
+    /// `Range` where the length isn't one of whole pages, and `Unmapped` with the first page that isn't there.
+    pub fn poke(&mut self, page: u64, bytes: &[u8]) -> Result<(), PageError>
+        ensures cause { result_err result ≡ pages_refusal self.old page (length bytes.now) }
+        ensures ok { OnOk result
+            (self.new ≡ with_memory self.old (with_bytes (memory_of self.old) (page * 4096) bytes.now)) }
+        ensures err { OnErr result (self.new ≡ self.old) }
+    {
+        match refused_pages(&self.pages, &self.hints, page, bytes.len()) {
+            Some(error) => Err(error),
+            None => {
+                if !bytes.is_empty() {
+                    copy_in(&mut self.pages, &self.hints, page * PAGE_SIZE as u64, bytes);
+                }
+                Ok(())
+            }
+        }
+    }
+
+    /// Does instructions of a thread over these pages until one traps or `n` are done.
+    #[inline]
+    pub fn run(&mut self, context: &mut Context, n: u32) -> Ended
+        ensures { run_space n context.old self.old
+            ≡ record { context = context.new; space = self.new; trap = trap_of result } }
+    {
+        // Before and after, the pages are ones that a process may have.
+        let _ = &self.pages;
+        let ended = slice(context, self, n);
+        let _ = &self.pages;
+        ended
     }
 }

@@ -1,9 +1,11 @@
-ghost use Rattle.std.specs.Prelude.{◌≡◌, ℕ, ◌+◌, ◌^◌, ◌<◌, ◌≤◌, IfOk, IsTrue, vec_len, vec_capacity};
+ghost use Rattle.std.specs.Prelude.{◌≡◌, ℕ, ◌+◌, ◌*◌, ◌^◌, ◌<◌, ◌≤◌, IfNone, IfOk, IsTrue, vec_len, vec_capacity};
 ghost use Rattle.std.specs.Result.{result_err};
 ghost use Rattle.guest_space.specs.Space.{protected, with_run, without_run};
 ghost use Rattle.guest_space.specs.Run.{first_held, first_missing, is_run};
-ghost use Rattle.guest_memory.specs.Pages.{AreInOrder, IsGap, space_of};
+ghost use Rattle.guest_memory.specs.Pages.{AreInOrder, AreThere, IsGap, space_of};
+ghost use Rattle.guest_memory.specs.Refusals.{pages_refusal};
 
+use crate::error::PageError;
 use crate::page::{PAGE_END, PAGE_SIZE, Page};
 use crate::place::{Hints, find, search};
 
@@ -44,6 +46,26 @@ pub fn missing_page(pages: &[Page], hints: &Hints, page: u64, count: u64) -> Opt
         }
     }
     None
+}
+
+/// Why the pages that `len` bytes fill, from page `page` on, can't be had: a length that isn't one of whole
+/// pages, or the first page that isn't there.
+pub fn refused_pages(pages: &[Page], hints: &Hints, page: u64, len: usize) -> Option<PageError>
+    requires { AreInOrder pages.now }
+    ensures cause { result ≡ pages_refusal (space_of pages.now) page len }
+    ensures there { IfNone result (0 < len → AreThere (space_of pages.now) (page * 4096) len) }
+{
+    if len % PAGE_SIZE != 0 {
+        return Some(PageError::Range);
+    }
+    let count = (len / PAGE_SIZE) as u64;
+    if count > 0 && page >= PAGE_END {
+        return Some(PageError::Unmapped(page));
+    }
+    match missing_page(pages, hints, page, count) {
+        Some(missing) => Some(PageError::Unmapped(missing)),
+        None => None,
+    }
 }
 
 /// Adds a run of pages of zeros at their place.
