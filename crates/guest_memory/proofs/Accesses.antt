@@ -16,7 +16,7 @@ use Rattle.guest_space.proofs.Cells.{memory_of-place, page_of_place, place_of_ad
 use Rattle.guest_memory.specs.declared.error.PageError.{PageError}
 use Rattle.guest_memory.specs.declared.error.PageError.TheVariants.{Unmapped, Denied}
 use Rattle.guest_memory.specs.Pages.{AreThere}
-use Rattle.guest_memory.proofs.Gaps.{if_missing_some}
+use Rattle.guest_space.proofs.RunLaws.{if_missing_some, get_outside}
 use Rattle.guest_memory.specs.Refusals.{error_of, byte_refusal, access_refusal, fault_of_error}
 
 module _ (s : Space) (right page k : ℕ) (h : k < 4096) where
@@ -123,8 +123,4 @@ AreThere-pages s page n sound some whole none =
 pub first_missing-past_end : (s : Space) (page n : ℕ) → IsSpace s → 0 < n → 2 ^ 26 ≤ page → first_missing s page n ≡ Some page
 first_missing-past_end s page n sound some past =
     ap (first_missing s page) (let e : n ≡ n - 1 + 1 = omega arith in e)
-    ∙ first_some-here (if_missing s) page (n - 1) page (if_missing_some s page (absent (get s page) refl))
-  where
-    absent : (o : Option Frame) → get s page ≡ o → get s page ≡ None
-    absent None is = is
-    absent (Some frame) is = let below = (sound.frames page frame is).below in absurd (omega arith)
+    ∙ first_some-here (if_missing s) page (n - 1) page (if_missing_some s page (get_outside s page sound (inr past)))

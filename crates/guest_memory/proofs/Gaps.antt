@@ -10,8 +10,9 @@ use Rattle.std.specs.Option.{is_some, MatchOption}
 use Rattle.std.specs.FinMap as map
 use Rattle.std.specs.FinMap.{get, get-empty}
 use Rattle.guest_space.specs.First.{first_some}
-use Rattle.guest_space.specs.Space.{Frame, Space, IsFrame, in_run, blank, with_run, without_run}
+use Rattle.guest_space.specs.Space.{Space, IsFrame, in_run, blank, with_run, without_run}
 use Rattle.guest_space.specs.Run.{is_run, first_held, if_held, if_missing}
+use Rattle.guest_space.proofs.RunLaws.{if_held_some, if_held_none, if_missing_none, if_missing_some}
 use Rattle.guest_space.proofs.FirstSome.{first_some-here, first_some-none, first_some-at}
 use Rattle.guest_space.proofs.Gets.{get-without_run}
 use Rattle.guest_space.proofs.Runs.{with_run-suc}
@@ -20,18 +21,6 @@ use Rattle.guest_space.proofs.Puts.{put_comm, same_spaces}
 use Rattle.guest_memory.specs.declared.page.Page.{Page}
 use Rattle.guest_memory.specs.Pages.{frame_of, space_of, AllAbove, AreInOrder, IsPlaceOf, IsGap, IsFound, IsAbsent}
 use Rattle.guest_memory.proofs.Order.{get-cons_here, get-cons_there, get-place, get_gap, numbers_rise_weakly}
-
-pub if_held_some : (s : Space) (q : ℕ) (frame : Frame) → get s q ≡ Some frame → if_held s q ≡ Some q
-if_held_some s q frame is = ap (λ (o : Option Frame). cond (is_some o) (Some q) None) is
-
-pub if_held_none : (s : Space) (q : ℕ) → get s q ≡ None → if_held s q ≡ None
-if_held_none s q is = ap (λ (o : Option Frame). cond (is_some o) (Some q) None) is
-
-pub if_missing_none : (s : Space) (q : ℕ) (frame : Frame) → get s q ≡ Some frame → if_missing s q ≡ None
-if_missing_none s q frame is = ap (λ (o : Option Frame). cond (is_some o) None (Some q)) is
-
-pub if_missing_some : (s : Space) (q : ℕ) → get s q ≡ None → if_missing s q ≡ Some q
-if_missing_some s q is = ap (λ (o : Option Frame). cond (is_some o) None (Some q)) is
 
 -- what a look for a page says of a run that it starts
 pub if_missing-found : (ps : List Page) (q : ℕ) (r : Option ℕ) → MatchOption r (IsAbsent ps q) (IsFound ps q) → is_some r ≡ true → if_missing (space_of ps) q ≡ None

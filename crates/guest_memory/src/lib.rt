@@ -7,6 +7,8 @@ mod page;
 mod pages;
 mod place;
 mod run;
+#[cfg(test)]
+mod tests;
 mod word;
 
 pub use error::PageError;

@@ -6,3 +6,4 @@ pub mod Spaces
 pub mod Cells
 pub mod Bytes
 pub mod Turns
+pub mod RunLaws
