@@ -10,18 +10,20 @@ pub struct Page {
     pub bytes: [u8; PAGE_SIZE],
 }
 
-/// The rights that a read, a write and an instruction need.
+/// The right that a read needs.
 pub const READ: u8 = 1;
 
+/// The right that a write needs.
 pub const WRITE: u8 = 2;
 
+/// The right that running an instruction needs.
 pub const RUN: u8 = 4;
+
+/// The rights to read, write and run.
+pub const ALL_RIGHTS: u8 = READ + WRITE + RUN;
 
 /// The number after that of the last page that a process may have.
 pub const PAGE_END: u64 = 0x400_0000;
 
 /// The most pages that a process may have.
 pub const MOST_PAGES: usize = 1024;
-
-/// The rights to read, write and run.
-pub const ALL_RIGHTS: u8 = READ + WRITE + RUN;

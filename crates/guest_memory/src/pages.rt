@@ -167,9 +167,9 @@ impl Pages {
     /// # Errors
     /// `Unmapped` and `Denied`, by the first page that isn't there or lacks the right.
     pub fn read(&self, at: u64, buf: &mut [u8]) -> Result<(), PageError>
-        ensures cause { result_err result ≡ access_refusal (memory_of self.now) 1 at (length buf.old) }
+        ensures cause { result_err result ≡ access_refusal (memory_of self.now) READ at (length buf.old) }
         ensures fault { option_map fault_of_error (result_err result)
-            ≡ first_fault (memory_of self.now) 1 at (length buf.old) }
+            ≡ first_fault (memory_of self.now) READ at (length buf.old) }
         ensures ok { OnOk result (buf.new ≡ bytes_from (memory_of self.now) at (length buf.old)) }
         ensures err { OnErr result (buf.new ≡ buf.old) }
     {
@@ -189,9 +189,9 @@ impl Pages {
     /// `Unmapped` and `Denied`, by the first page that isn't there or lacks the right.
     pub fn write(&mut self, at: u64, bytes: &[u8]) -> Result<(), PageError>
         ensures cause { result_err result
-            ≡ access_refusal (memory_of self.old) 2 at (length bytes.now) }
+            ≡ access_refusal (memory_of self.old) WRITE at (length bytes.now) }
         ensures fault { option_map fault_of_error (result_err result)
-            ≡ first_fault (memory_of self.old) 2 at (length bytes.now) }
+            ≡ first_fault (memory_of self.old) WRITE at (length bytes.now) }
         ensures ok { OnOk result
             (self.new ≡ with_memory self.old (with_bytes (memory_of self.old) at bytes.now)) }
         ensures err { OnErr result (self.new ≡ self.old) }
