@@ -1,0 +1,4 @@
+pub mod Holds
+pub mod Keeping
+pub mod Starts
+pub mod Opening
