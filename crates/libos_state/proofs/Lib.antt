@@ -2,3 +2,5 @@ pub mod Holds
 pub mod Keeping
 pub mod Starts
 pub mod Opening
+pub mod Pieces
+pub mod Reading

@@ -5,7 +5,8 @@ use Rattle.std.specs.FinMap.{get, insert}
 use Rattle.std.specs.Option.{unwrap_or}
 use Rattle.std.specs.declared.option.Option.{Option}
 use Rattle.std.specs.declared.option.Option.TheVariants.{None, Some}
-use Rattle.std.proofs.Common.{refl, sym, ap, ◌∙◌, arith, le-ltb, ne_eqb, eqb-true, eqb-false}
+use Rattle.std.proofs.Common.{refl, sym, ap, ◌∙◌, arith, le-ltb, ne_eqb, eqb-true}
+use Rattle.std.proofs.lemmas.Bool.{eqb-false}
 use Rattle.std.proofs.lemmas.List.{length_push, get_or_push}
 use Rattle.bas_edge.specs.Files.{file_of, file_bytes}
 use Rattle.abi_calls.specs.declared.call.StreamName.TheVariants.{File, ConIn, ConOut, ConErr}
