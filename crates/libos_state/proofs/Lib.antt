@@ -4,3 +4,5 @@ pub mod Starts
 pub mod Opening
 pub mod Pieces
 pub mod Reading
+pub mod Making
+pub mod Beginning
