@@ -1,2 +1,5 @@
 pub mod Holds
 pub mod Bases
+pub mod Rows
+pub mod Served
+pub mod Resuming
