@@ -3,3 +3,5 @@ pub mod Bases
 pub mod Rows
 pub mod Served
 pub mod Resuming
+pub mod Writing
+pub mod Ending

@@ -82,7 +82,7 @@ records_over os cont live new p t context fits memory thread keeps = record {
 pub records_on : (os : LibOs) (cont : Option Cont) (live : Live) (p : ProcessNote) (t : ThreadNote) → FitsRecords os live p t → FitsRecords (record os { cont = cont }) live p t
 records_on os cont live p t fits = records_over os cont live live p t fits.context fits fits.memory fits.object (λ h _. refl)
 
-pub served_on : (os : LibOs) (cont : Option Cont) (o : Objects) (c c' : Cont) → c'.event ≡ c.event → FitsServed os o c → FitsServed (record os { cont = cont }) o c'
+abbrev pub served_on : (os : LibOs) (cont : Option Cont) (o : Objects) (c c' : Cont) → c'.event ≡ c.event → FitsServed os o c → FitsServed (record os { cont = cont }) o c'
 served_on os cont o c c' same fits = record {
   upcall = fits.upcall;
   event = same ∙ fits.event;
