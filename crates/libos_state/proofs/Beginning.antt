@@ -1,5 +1,5 @@
 -- A start begins in a world without objects, and ends when its thread becomes ready: the library OS is up.
-use Rattle.std.specs.Prelude.{◌≡◌, ℕ, ◌≤◌, Bool, true, false, cond, not, ◌||◌, ◌==◌, if◌then◌else◌, nat_le, List, [], ◌∷◌, ◌++◌, length, slice_index, is_some, filter_map}
+use Rattle.std.specs.Prelude.{◌≡◌, ◌≢◌, ℕ, ◌≤◌, bit_and, Bool, true, false, cond, not, ◌||◌, ◌==◌, if◌then◌else◌, nat_le, List, [], ◌∷◌, ◌++◌, length, slice_index, is_some, filter_map}
 use Rattle.std.specs.List.{list_all}
 use Rattle.std.specs.Option.{option_map}
 use Rattle.std.specs.Ordering.{nat_cmp}
@@ -28,6 +28,7 @@ use Rattle.mono_model.specs.Starting.{Runs, begun, boot}
 use Rattle.libos_state.specs.declared.cont.Cont.{Cont}
 use Rattle.libos_state.specs.declared.cont.Stage.TheVariants.{StartThread}
 use Rattle.libos_state.specs.declared.notes.Description.{Description}
+use Rattle.libos_state.specs.declared.notes.Kind.TheVariants as kind
 use Rattle.libos_state.specs.declared.notes.ProcessNote.{ProcessNote}
 use Rattle.libos_state.specs.declared.notes.ThreadNote.{ThreadNote}
 use Rattle.libos_state.specs.declared.state.LibOs.{LibOs}
@@ -156,6 +157,7 @@ begun_records os c o fits =
       object = fits.thread.thread;
       closable = console_closable o.live c.handles (handle c 5) fits.set console fits.event;
       streams = λ id d is. one_of_three (λ n. get {R = nat_cmp} o.live n.handle ≡ Some (Stream (stream_of_kind n.kind))) (1 == id) (2 == id) (3 == id) _ _ _ d console.input console.output console.errors is;
+      inputs = λ id d is. one_of_three (λ n. n.kind ≡ kind.ConIn → bit_and n.access 2 ≢ 2) (1 == id) (2 == id) (3 == id) _ _ _ d (λ _ same. absurd (omega arith)) (λ same. absurd (cc)) (λ same. absurd (cc)) is;
     }
 
 pub keeps_start_thread : (os : LibOs) (c : Cont) (w w' : World) (r : Reply) → FitsStage os w.objects c StartThread → IsSound w.objects → Abi w (asked os c StartThread) r w' → Holds os c StartThread w r w'
@@ -165,9 +167,10 @@ keeps_start_thread os c w w' r fits sound abi =
     let thread : ThreadNote = record { tid = 1; pid = 1; handle = t; event = handle c 5 } in
     let row : answer w (asked os c StartThread) r ≡ (Done, with_objects w (started w.objects t)) = resume_row w t (file_or_child c) fits.thread.context fits.thread.thread fits.thread.suspended in
     let records = begun_records os c w.objects fits in
-    by_row os c StartThread w w' r (asked os c StartThread) (Done, with_objects w (started w.objects t)) abi row
+    by_row os c StartThread w w' r (Done, with_objects w (started w.objects t)) abi row
     (record {
       fits = record {
+        up = refl;
         process = process;
         thread = thread;
         records = records;

@@ -1,4 +1,5 @@
--- A reply at a stage keeps the library OS fitting, and keeps what it stands for.
+-- What a stage owes: from any world that the library OS fits at this stage, the reply leaves a library OS that fits the
+-- new world, and what the two stand for is what the stage stood for.
 use Rattle.std.specs.Prelude.{◌≡◌}
 use Rattle.abi_calls.specs.declared.reply.Reply.{Reply}
 use Rattle.abi_calls.specs.World.{World}

@@ -21,21 +21,22 @@ use Rattle.mono_model.specs.Starting.{Started}
 use Rattle.libos_state.specs.declared.cont.Cont.{Cont}
 use Rattle.libos_state.specs.declared.cont.Stage.{Stage}
 use Rattle.libos_state.specs.declared.state.LibOs.{LibOs}
+use Rattle.libos_state.specs.Pending.{asked}
 use Rattle.libos_state.specs.Answered.{next}
 use Rattle.libos_state.specs.Meaning.{meaning, meant_at}
 use Rattle.libos_state.specs.Fits.{Fits, NoneLive, passes}
 use Rattle.libos_state.proofs.Holds.{Holds}
+use Rattle.libos_state.proofs.Rows.{holds_by}
 
 -- The library OS fits a world, and the two stand for this.
 pub record Stands (os : LibOs) (w : World) (m : Started) : Type 0 where
   pub fits : Fits os w.objects
   pub means : meaning os w ≡ m
 
--- The row of a call fixes the reply and the new world.
-pub by_row : (os : LibOs) (c : Cont) (stage : Stage) (w w' : World) (r : Reply) (call : Call) (x : Answer) → Abi w call r w' → answer w call r ≡ x →
+-- The row of a call fixes the reply and the new world: a stage owes that the library OS which comes of it stands there.
+pub by_row : (os : LibOs) (c : Cont) (stage : Stage) (w w' : World) (r : Reply) (x : Answer) → Abi w (asked os c stage) r w' → answer w (asked os c stage) r ≡ x →
     Stands (next os c stage x.0) x.1 (meant_at os w c stage) → Holds os c stage w r w'
-by_row os c stage w w' r call x abi row stands =
-    subst (λ (y : Answer). Holds os c stage w y.0 y.1) (sym row ∙ abi.row) (record { fits = stands.fits; means = stands.means })
+by_row os c stage w w' r x abi row stands = holds_by os c stage w w' r x abi row (record { fits = stands.fits; means = stands.means })
 
 -- A handle that is given is fresh.
 pub drawn_new : (w w' : World) (call : Call) (r : Reply) (h : ℕ) (made : World) → Abi w call r w' → answer w call r ≡ (Handle h, made) → IsFresh w.objects h

@@ -6,3 +6,9 @@ pub mod Pieces
 pub mod Reading
 pub mod Making
 pub mod Beginning
+pub mod Bases
+pub mod Rows
+pub mod Served
+pub mod Resuming
+pub mod Writing
+pub mod Ending

@@ -68,7 +68,7 @@ keeps_create_process os c w w' r fits sound abi =
     let fresh = drawn_new w w' (asked os c CreateProcess) r h (with_objects w o) abi row in
     let made = made_behind w.objects.live c.handles h child fresh.free (omega arith) fits.opening.opened in
     let there : object_at o (slice_index handles 3) ≡ Some child = ap (λ n. object_at o (slice_index handles n)) (sym count) ∙ made.there in
-    by_row os c CreateProcess w w' r (asked os c CreateProcess) (Handle h, with_objects w o) abi row
+    by_row os c CreateProcess w w' r (Handle h, with_objects w o) abi row
     (record {
       fits = record {
         child = record {
@@ -111,7 +111,7 @@ keeps_create_thread os c w w' r fits sound abi =
     let child : object_at o (slice_index handles 3) ≡ Some (Process fits.memory None) = made.stays 3 (Process fits.memory None) (omega arith) fits.child in
     let last : slice_index handles 4 ≡ h = ap (slice_index handles) (sym count) ∙ made.last in
     let there : object_at o (slice_index handles 4) ≡ Some thread = ap (λ n. object_at o (slice_index handles n)) (sym count) ∙ made.there in
-    by_row os c CreateThread w w' r (asked os c CreateThread) (Handle h, with_objects w o) abi row
+    by_row os c CreateThread w w' r (Handle h, with_objects w o) abi row
     (record {
       fits = record {
         start = start_goes_on os w.objects o c CreateEvent c.bytes handles [] fits.start fits.start.ready fits.start.current;
@@ -141,7 +141,7 @@ keeps_create_event os c w w' r fits sound abi =
     let same : slice_index handles 4 ≡ handle c 4 = made.before 4 (omega arith) in
     let child : object_at o (slice_index handles 3) ≡ Some (Process fits.memory None) = made.stays 3 (Process fits.memory None) (omega arith) fits.child in
     let thread : object_at o (slice_index handles 4) ≡ Some (Thread (file_or_child c) fits.context) = made.stays 4 (Thread (file_or_child c) fits.context) (omega arith) fits.thread in
-    by_row os c CreateEvent w w' r (asked os c CreateEvent) (Handle h, with_objects w o) abi refl
+    by_row os c CreateEvent w w' r (Handle h, with_objects w o) abi refl
     (record {
       fits = record {
         thread = record {

@@ -48,7 +48,7 @@ pub keeps_configure : (os : LibOs) (c : Cont) (w w' : World) (r : Reply) → Fit
 keeps_configure os c w w' r fits sound abi =
     let o : Objects = record w.objects { settings = os.settings; positions = no_positions } in
     let unbegun : IsUnbegun o = record { ready = fits.start.ready; suspended = fits.suspended; current = fits.start.current; no_process = fits.no_process; no_thread = fits.no_thread } in
-    by_row os c stage.Configure w w' r (asked os c stage.Configure) (Done, with_objects w o) abi
+    by_row os c stage.Configure w w' r (Done, with_objects w o) abi
     (configure_row w os.settings no_positions fits.settings fits.unturned (none_runs w.objects.live fits.no_process))
     (record {
       fits = record { opening = opening_goes_on os w.objects o c OpenConsole [] [] [] 0 fits.start unbegun refl tt; few = omega arith };
@@ -87,7 +87,7 @@ keeps_open_console os c w w' r fits sound abi =
     let ends = opened_more w.objects.live c.handles h fresh.free fits.few fits.opening.opened in
     let long : length (c.handles ++ h ∷ []) ≤ 3 = let few = fits.few in omega (arith, length_push c.handles h) in
     let unbegun = unbegun_opened w.objects h name (unbegun_opening os w.objects c (length c.handles) fits.opening) in
-    by_row os c OpenConsole w w' r (asked os c OpenConsole) (Handle h, with_objects w o) abi row
+    by_row os c OpenConsole w w' r (Handle h, with_objects w o) abi row
     (opens_stands os c w (with_objects w o) (c.handles ++ h ∷ []) (length (c.handles ++ h ∷ []) == 3) fits.opening.start unbegun ends long refl refl)
 
 -- ---- the program's file is opened, or there is none
@@ -102,7 +102,7 @@ open_row w name h found some short is =
 opened_program : (os : LibOs) (c : Cont) (w w' : World) (r : Reply) → FitsOpening os w.objects c 3 → Abi w (asked os c OpenProgram) r w' → (found : Option (List ℕ)) → file_of w.contents.files (program_name c) ≡ found →
     Holds os c OpenProgram w r w'
 opened_program os c w w' r fits abi None is =
-    by_row os c OpenProgram w w' r (asked os c OpenProgram) (NotFound, w) abi (open_row w (program_name c) (drawn r) None fits.start.names.named fits.start.names.short is)
+    by_row os c OpenProgram w w' r (NotFound, w) abi (open_row w (program_name c) (drawn r) None fits.start.names.named fits.start.names.short is)
     (record { fits = fits.start.current; means = sym (ap (started_if (unstarted w) (arguments c)) is) })
 opened_program os c w w' r fits abi (Some bytes) is =
     let h = drawn r in
@@ -118,7 +118,7 @@ opened_program os c w w' r fits abi (Some bytes) is =
     let long : length handles ≡ 4 = let count = fits.count in omega (arith, length_push c.handles h) in
     let contents : file_bytes w.contents.files (name_in (stream_of (object_at o (slice_index handles 3)))) ≡ bytes =
         ap (λ x. file_bytes w.contents.files (name_in (stream_of x))) file ∙ ap (λ f. unwrap_or f []) is in
-    by_row os c OpenProgram w w' r (asked os c OpenProgram) (Handle h, with_objects w o) abi row
+    by_row os c OpenProgram w w' r (Handle h, with_objects w o) abi row
     (record {
       fits = record {
         opening = opening_goes_on os w.objects o c ProgramLength [] handles [] 4 fits.start (unbegun_opened w.objects h (File name) (unbegun_opening os w.objects c 3 fits)) long ends;

@@ -62,7 +62,7 @@ keeps_program_length os c w w' r fits sound abi =
     let size = length (program_file w c) in
     let row : answer w (asked os c ProgramLength) r ≡ (Length size, w) =
         ap (λ x. stream_length w (stream_of x)) fits.file ∙ ap {B = Answer} (λ x. (Length (length (file_bytes w.contents.files (name_in (stream_of x)))), w)) (sym fits.file) in
-    by_row os c ProgramLength w w' r (asked os c ProgramLength) (Length size, w) abi row (length_stands os c w size (size == 0) fits refl refl)
+    by_row os c ProgramLength w w' r (Length size, w) abi row (length_stands os c w size (size == 0) fits refl refl)
 
 -- ---- a piece is read
 
@@ -114,7 +114,7 @@ pub keeps_read_program : (os : LibOs) (c : Cont) (w w' : World) (r : Reply) → 
 keeps_read_program os c w w' r fits sound abi =
     let count = min PIECE (number c 0 - length c.bytes) in
     let row : answer w (asked os c ReadProgram) r ≡ (Bytes (piece_of w c), w) = read_row w (length c.bytes) count fits.file.name (object_at w.objects (file_or_child c)) (omega arith) fits.file.file in
-    by_row os c ReadProgram w w' r (asked os c ReadProgram) (Bytes (piece_of w c), w) abi row
+    by_row os c ReadProgram w w' r (Bytes (piece_of w c), w) abi row
     (piece_stands os c w (length (piece_of w c) == 0) (nat_le (number c 0) (length (c.bytes ++ piece_of w c))) fits refl refl)
 
 -- ---- the file is closed, and its bytes are a program or none
@@ -151,4 +151,4 @@ pub keeps_close_program : (os : LibOs) (c : Cont) (w w' : World) (r : Reply) →
 keeps_close_program os c w w' r fits sound abi =
     let h = file_or_child c in
     let row : answer w (asked os c CloseProgram) r ≡ (Done, with_objects w (without_handles w.objects (λ k. k == h))) = ap (closed w h) fits.file in
-    by_row os c CloseProgram w w' r (asked os c CloseProgram) (Done, with_objects w (without_handles w.objects (λ k. k == h))) abi row (closed_stands os c w (is_plain c.bytes) fits refl)
+    by_row os c CloseProgram w w' r (Done, with_objects w (without_handles w.objects (λ k. k == h))) abi row (closed_stands os c w (is_plain c.bytes) fits refl)
