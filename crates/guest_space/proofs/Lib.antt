@@ -4,3 +4,4 @@ pub mod FirstSome
 pub mod Spaces
 pub mod Cells
 pub mod Bytes
+pub mod Filling
