@@ -12,3 +12,6 @@ pub mod Served
 pub mod Resuming
 pub mod Writing
 pub mod Ending
+pub mod Pages
+pub mod Loading
+pub mod Stacking

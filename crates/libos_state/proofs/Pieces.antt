@@ -1,6 +1,6 @@
 -- A list taken piece by piece.
 use Rattle.std.specs.Prelude.{◌≡◌, ℕ, ◌+◌, ◌-◌, ◌≤◌, List, [], ◌++◌, length, take, drop, min}
-use Rattle.std.proofs.Common.{refl, sym, ap, ◌∙◌, arith, inl, inr, append_assoc, append-nil, drop-drop, length-append, length-take, length-drop}
+use Rattle.std.proofs.Common.{refl, sym, ap, ◌∙◌, arith, inl, inr, append_assoc, append-nil, drop-drop, length-append, length-take, take-append-drop}
 use Rattle.std.proofs.lemmas.Bool.{cases_lt}
 use Rattle.std.proofs.lemmas.List.{nil_from_length, take_all, drop_all}
 use lib.Seq.{take-add}
@@ -41,3 +41,15 @@ nothing_left xs k n some none =
 -- A piece is all where it is as long as all.
 pub piece_is_all : (xs : List ℕ) (k n : ℕ) → k ≤ n → n ≤ length (take k xs) → take k xs ≡ take n xs
 piece_is_all xs k n within long = let same : k ≡ n = omega (arith, length-take k xs) in ap (λ j. take j xs) same
+
+-- A piece, and what stands behind it.
+pub piece_and_behind : (xs : List ℕ) (k : ℕ) → take k xs ++ drop (length (take k xs)) xs ≡ xs
+piece_and_behind xs k =
+    elim (cases_lt (length xs) k) [
+      | inl short ↦
+          let whole : take k xs ≡ xs = take_all k xs (omega arith) in
+          (λ i. whole i ++ drop (length (whole i)) xs) ∙ ap (λ ys. xs ++ ys) (drop_all (length xs) xs (omega arith)) ∙ append-nil xs
+      | inr long ↦
+          let full : length (take k xs) ≡ k = omega (arith, length-take k xs) in
+          ap (λ j. take k xs ++ drop j xs) full ∙ take-append-drop k xs
+    ]
