@@ -56,6 +56,14 @@ pub processes_kept : (notes : List ProcessNote) (n : ProcessNote) (live new : Li
 processes_kept notes n live new is same =
     processes_one notes n new is ∙ ap (λ memory. only n.pid (process_if n.code memory n.descriptors)) same ∙ sym (processes_one notes n live is)
 
+-- a process with another memory
+pub processes_set : (notes : List ProcessNote) (n : ProcessNote) (space : Space) (live new : Live) → notes ≡ n ∷ [] → n.code ≡ None →
+    memory_of_object (get {R = nat_cmp} new n.handle) ≡ space → processes_of notes new ≡ insert (processes_of notes live) n.pid (process_if None space n.descriptors)
+processes_set notes n space live new is alive at =
+    let process : mono.Process = process_if None space n.descriptors in
+    processes_one notes n new is ∙ (λ i. only n.pid (process_if (alive i) (at i) n.descriptors))
+    ∙ sym (ap (λ m. insert m n.pid process) (processes_one notes n live is) ∙ set_twice empty n.pid (process_seen live n) process)
+
 -- a thread with other registers
 pub threads_set : (notes : List ThreadNote) (n : ThreadNote) (p : ℕ) (context : Context) (live new : Live) → notes ≡ n ∷ [] →
     get {R = nat_cmp} new n.handle ≡ Some (Thread p context) → threads_of notes new ≡ insert (threads_of notes live) n.tid (record { process = n.pid; context = context })

@@ -5,3 +5,5 @@ pub mod Served
 pub mod Resuming
 pub mod Writing
 pub mod Ending
+pub mod Turning
+pub mod Entering

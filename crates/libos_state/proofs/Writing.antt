@@ -44,7 +44,7 @@ use Rattle.libos_state.proofs.Bases.{described_alike, memory_there}
 use Rattle.libos_state.proofs.Served.{Running, running_of, served_on, trap_process, caller_process}
 
 -- What a write does, where its descriptor is open for writing and it has bytes to write.
-served_write : (m : Mono) (who : Caller) (cause : ℕ) (d : mono.Description) (s : Space) → cause ≡ 8 → register who.context 17 ≡ WRITE →
+pub served_write : (m : Mono) (who : Caller) (cause : ℕ) (d : mono.Description) (s : Space) → cause ≡ 8 → register who.context 17 ≡ WRITE →
     description_of m who.process (register who.context 10) ≡ Some d → bit_and d.access 2 ≡ 2 → register who.context 12 ≢ 0 → memory_at m who.process ≡ s →
     served m who cause ≡ write_unless m who d.stream (bytes_from (memory_of s) (register who.context 11) (moved (register who.context 12))) (first_fault (memory_of s) 1 (register who.context 11) (moved (register who.context 12)))
 served_write m who cause d s call writes there allowed some memory =
