@@ -7,3 +7,6 @@ pub mod Writing
 pub mod Ending
 pub mod Turning
 pub mod Entering
+pub mod Codes
+pub mod Taken
+pub mod Answering

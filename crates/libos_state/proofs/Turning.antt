@@ -44,6 +44,10 @@ first_there h place ready is first = λ i. slice_get (is i) (first i)
 first_left : (h place : ℕ) (ready : List ℕ) → ready ≡ h ∷ [] → place ≡ 0 → remove_at ready place ≡ []
 first_left h place ready is first = λ i. remove_at (is i) (first i)
 
+-- The one ready thread of the machine.
+pub idle_ready : (os : LibOs) (w : World) (fits : FitsIdle os w.objects) → (base os w).ready ≡ fits.thread.tid ∷ []
+idle_ready os w fits = ap (tids_of os.threads) fits.ready ∙ tids_one os.threads fits.thread fits.thread.handle fits.records.threads refl
+
 -- What a trap leaves: the library OS can serve it, and serving it is the machine's turn.
 pub record Traps (os : LibOs) (w : World) (u : Upcall) (o : Objects) : Type 0 where
   pub fits : FitsServed os o (entered_with u)
@@ -117,7 +121,7 @@ module _ (os : LibOs) (w : World) (fits : FitsIdle os w.objects) (sound : IsSoun
   machine_place = machine.pick_of (base os w)
 
   machine_ready : (base os w).ready ≡ thread.tid ∷ []
-  machine_ready = ap (tids_of os.threads) fits.ready ∙ tids_one os.threads thread thread.handle fits.records.threads refl
+  machine_ready = idle_ready os w fits
 
   machine_first : machine_place ≡ 0
   machine_first = pick_first _ thread.tid (base os w).ready machine_ready
