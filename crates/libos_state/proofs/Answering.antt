@@ -2,17 +2,16 @@
 use Rattle.std.specs.Prelude.{◌≡◌}
 use Rattle.std.specs.declared.option.Option.{Option}
 use Rattle.std.specs.declared.option.Option.TheVariants.{None, Some}
-use Rattle.std.proofs.Common.{refl, sym, ap, subst, ◌∙◌}
+use Rattle.std.proofs.Common.{subst}
 use Rattle.abi_calls.specs.declared.call.Call.{Call}
 use Rattle.abi_calls.specs.declared.reply.Reply.{Reply}
-use Rattle.abi_calls.specs.Objects.{Objects}
 use Rattle.abi_calls.specs.World.{World}
 use Rattle.abi_calls.specs.Abi.{Abi}
 use Rattle.abi_calls.specs.Sound.{IsSound}
 use Rattle.libos_state.specs.declared.cont.Cont.{Cont}
 use Rattle.libos_state.specs.declared.cont.Stage.{Stage}
 use Rattle.libos_state.specs.declared.state.LibOs.{LibOs}
-use Rattle.libos_state.specs.Pending.{asked, asked_by, pending}
+use Rattle.libos_state.specs.Pending.{asked, asked_by}
 use Rattle.libos_state.specs.Answered.{answered, answered_in}
 use Rattle.libos_state.specs.Meaning.{meaning, meant}
 use Rattle.libos_state.specs.Fits.{Fits, FitsStage, FitsCont}

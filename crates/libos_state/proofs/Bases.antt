@@ -1,5 +1,5 @@
 -- The machine that the records name: what its look-ups find, and how it changes with the objects.
-use Rattle.std.specs.Prelude.{◌≡◌, ◌≢◌, ℕ, ◌==◌, Bool, true, false, cond, List, [], ◌∷◌, ◌++◌, map, find}
+use Rattle.std.specs.Prelude.{◌≡◌, ℕ, ◌==◌, Bool, true, false, cond, List, [], ◌∷◌, map, find}
 use Rattle.std.specs.List.{cons_option}
 use Rattle.std.specs.Ordering.{nat_cmp}
 use Rattle.std.specs.FinMap.{FinMap, get, insert, empty, from_entries}
@@ -11,13 +11,12 @@ use Rattle.std.proofs.lemmas.Bool.{cond-true}
 use Rattle.rv_core.specs.declared.context.Context.{Context}
 use Rattle.guest_space.specs.Space.{Space}
 use Rattle.abi_calls.specs.declared.object.Object.TheVariants.{Thread}
-use Rattle.abi_calls.specs.Objects.{Object, Objects, Live}
+use Rattle.abi_calls.specs.Objects.{Live}
 use Rattle.abi_calls.specs.World.{World, with_objects}
 use Rattle.abi_calls.proofs.NumberMaps.{get_none, get_set, get_same, set_twice}
 use Rattle.mono_model.specs.Machine as mono
 use Rattle.mono_model.specs.Machine.{Mono, exited, process_at, thread_at, with_thread}
 use Rattle.mono_model.specs.Calls.{description_of, described_by, described_in, memory_at, memory_in}
-use Rattle.libos_state.specs.declared.notes.Description.{Description}
 use Rattle.libos_state.specs.declared.notes.DescriptorNote.{DescriptorNote}
 use Rattle.libos_state.specs.declared.notes.ProcessNote.{ProcessNote}
 use Rattle.libos_state.specs.declared.notes.ThreadNote.{ThreadNote}

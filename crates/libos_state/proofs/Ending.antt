@@ -1,35 +1,34 @@
 -- The stages of a process that ends: its handles are closed, and it exits.
-use Rattle.std.specs.Prelude.{◌≡◌, ◌≢◌, ℕ, ◌==◌, ◌||◌, not, true, false, cond, List, [], ◌∷◌, filter, drop, slice_index, is_some}
+use Rattle.std.specs.Prelude.{◌≡◌, ◌≢◌, ℕ, ◌==◌, not, true, false, List, [], ◌∷◌, filter, drop, slice_index, is_some}
 use Rattle.std.specs.Ordering.{nat_cmp}
 use Rattle.std.specs.FinMap.{get, empty}
 use Rattle.std.specs.declared.option.Option.{Option}
 use Rattle.std.specs.declared.option.Option.TheVariants.{None, Some}
-use Rattle.std.proofs.Common.{refl, sym, ap, subst, ◌∙◌, eq-eqb, ne_eqb}
+use Rattle.std.proofs.Common.{refl, sym, ap, ◌∙◌, eq-eqb, ne_eqb}
 use Rattle.std.proofs.lemmas.Bool.{cond-true, cond-false, or_parts}
-use Rattle.rv_core.specs.declared.context.Context.{Context}
 use Rattle.abi_calls.specs.declared.object.Object.TheVariants.{Process, Thread, Event, Stream}
 use Rattle.abi_calls.specs.declared.reply.Reply.{Reply}
 use Rattle.abi_calls.specs.declared.reply.Reply.TheVariants.{Done}
 use Rattle.abi_calls.specs.Objects.{Object, Objects, Live, object_at, running, contains, kept, is_thread_of, with_object, without_handles}
-use Rattle.abi_calls.specs.World.{World, Answer, with_objects}
+use Rattle.abi_calls.specs.World.{World, with_objects}
 use Rattle.abi_calls.specs.Processes.{ended, closed, process_exited, without_threads}
 use Rattle.abi_calls.specs.Abi.{Abi}
 use Rattle.abi_calls.specs.Sound.{IsSound}
 use Rattle.abi_calls.proofs.SoundChanges.{without_at}
-use Rattle.mono_model.specs.Starting.{Started, Runs}
+use Rattle.mono_model.specs.Starting.{Runs}
 use Rattle.libos_state.specs.declared.cont.Cont.{Cont}
 use Rattle.libos_state.specs.declared.cont.Stage.TheVariants.{CloseHandles, ExitProcess}
 use Rattle.libos_state.specs.declared.state.LibOs.{LibOs}
 use Rattle.libos_state.specs.Records.{base}
 use Rattle.libos_state.specs.Pending.{asked, upcall_in, handle, number}
-use Rattle.libos_state.specs.Answered.{bare, ends, closes_on}
+use Rattle.libos_state.specs.Answered.{ends, closes_on}
 use Rattle.libos_state.specs.Meaning.{meaning, meant_idle}
 use Rattle.libos_state.specs.Fits.{Fits, FitsEnding, FitsClosing, FitsOver, Closable, is_closable}
 use Rattle.libos_state.proofs.Holds.{Holds}
 use Rattle.libos_state.proofs.Rows.{holds_by}
 use Rattle.libos_state.proofs.Bases.{base_over}
 use Rattle.libos_state.proofs.Served.{Running, running_of, apart, closable_no_thread, closable_no_process}
-use Rattle.libos_state.proofs.Resuming.{exit_code_is, fits_up}
+use Rattle.libos_state.proofs.Idle.{exit_code_is, fits_up}
 
 -- What the end of a process keeps of the objects.
 pub record KeepsEnding (o o' : Objects) (process thread : ℕ) : Type 0 where

@@ -1,5 +1,5 @@
 -- The library OS begins to serve a trap: it stands for the machine that has served it.
-use Rattle.std.specs.Prelude.{◌≡◌, ◌≢◌, ℕ, ◌%◌, ◌==◌, Bool, true, false, cond, List, [], ◌∷◌, map, bit_and, is_some}
+use Rattle.std.specs.Prelude.{◌≡◌, ◌≢◌, ℕ, ◌%◌, ◌==◌, true, false, cond, [], ◌∷◌, map, bit_and, is_some}
 use Rattle.std.specs.Option.{option_map}
 use Rattle.std.specs.FinMap.{insert, empty}
 use Rattle.std.specs.declared.option.Option.{Option}
@@ -7,17 +7,13 @@ use Rattle.std.specs.declared.option.Option.TheVariants.{None, Some}
 use Rattle.std.proofs.Common.{refl, sym, ap, subst, ◌∙◌, eq-eqb, eqb-true}
 use Rattle.std.proofs.lemmas.Bool.{cond-true, eqb-false}
 use Rattle.abi_calls.specs.declared.object.Object.TheVariants.{Thread}
-use Rattle.abi_calls.specs.declared.threads.Turned.TheVariants.{Exception}
 use Rattle.abi_calls.specs.declared.threads.Upcall.{Upcall}
-use Rattle.abi_calls.specs.Objects.{Objects, object_at, running}
+use Rattle.abi_calls.specs.Objects.{object_at, running}
 use Rattle.abi_calls.specs.World.{World}
-use Rattle.abi_calls.specs.Sound.{IsSound}
-use Rattle.abi_calls.specs.Turn.{turned}
 use Rattle.abi_calls.proofs.NumberMaps.{set_twice}
 use Rattle.mono_model.specs.Machine.{Mono, register, returned, exited}
 use Rattle.mono_model.specs.Calls.{Caller, WRITE, EXIT, EBADF, ENOSYS, error, fault_code, finished, ended, description_of, memory_at, write, write_to, write_from, writable, moved, exit, system_call, served}
-use Rattle.mono_model.specs.Starting.{Started, Runs}
-use Rattle.mono_model.specs.Turns.{turn_of}
+use Rattle.mono_model.specs.Starting.{Runs}
 use Rattle.libos_state.specs.declared.cont.Cont.{Cont}
 use Rattle.libos_state.specs.declared.cont.Stage.TheVariants.{SetContext, ReadMemory}
 use Rattle.libos_state.specs.declared.notes.Description.{Description}
@@ -28,9 +24,9 @@ use Rattle.libos_state.specs.Pending.{upcall_in}
 use Rattle.libos_state.specs.Answered.{bare, goes_on}
 use Rattle.libos_state.specs.Entered.{entered, entered_with, result_of, write_entered, handles_of, note_ended, without_process, ends_process, call_entered}
 use Rattle.libos_state.specs.Meaning.{meaning, caller_in}
-use Rattle.libos_state.specs.Fits.{Fits, FitsIdle, FitsServed, FitsWrite, FitsEnding}
+use Rattle.libos_state.specs.Fits.{Fits, FitsServed, FitsWrite, FitsEnding}
 use Rattle.libos_state.specs.Laws.{EntersTurn}
-use Rattle.libos_state.proofs.Bases.{only, processes_one, processes_over, described_alike}
+use Rattle.libos_state.proofs.Bases.{processes_one, processes_over, described_alike}
 use Rattle.libos_state.proofs.Served.{served_on, trap_process, trap_thread, trap_object, caller_process}
 use Rattle.libos_state.proofs.Writing.{served_write}
 use Rattle.libos_state.proofs.Ending.{closes_fits, closes_means}

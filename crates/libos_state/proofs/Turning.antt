@@ -1,37 +1,36 @@
 -- A turn of a world that the idle library OS fits, beside a turn of the machine.
-use Rattle.std.specs.Prelude.{◌≡◌, ◌≢◌, ℕ, ◌%◌, true, List, [], ◌∷◌, ◌++◌, length, slice_get, is_some, unwrap_or, remove as remove_at}
+use Rattle.std.specs.Prelude.{◌≡◌, ℕ, ◌%◌, true, List, [], ◌∷◌, ◌++◌, length, slice_get, is_some, unwrap_or, remove as remove_at}
 use Rattle.std.specs.Ordering.{nat_cmp}
 use Rattle.std.specs.FinMap.{get, insert, empty}
 use Rattle.std.specs.declared.option.Option.{Option}
 use Rattle.std.specs.declared.option.Option.TheVariants.{None, Some}
 use Rattle.std.proofs.Common.{refl, sym, ap, subst, ◌∙◌, arith}
-use Rattle.rv_core.specs.declared.context.Context.{Context}
 use Rattle.guest_space.specs.Space.{Space}
 use Rattle.guest_space.specs.Running.{Ran as Run, run_space}
 use Rattle.abi_calls.specs.declared.object.Object.TheVariants.{Process, Thread}
 use Rattle.abi_calls.specs.declared.threads.Turned.{Turned}
 use Rattle.abi_calls.specs.declared.threads.Turned.TheVariants.{Ran, Idle, Stuck, Exception}
 use Rattle.abi_calls.specs.declared.threads.Upcall.{Upcall}
-use Rattle.abi_calls.specs.Objects.{Object, Objects, Live, object_at, running, with_object}
+use Rattle.abi_calls.specs.Objects.{Objects, Live, object_at, running}
 use Rattle.abi_calls.specs.World.{World, with_objects}
 use Rattle.abi_calls.specs.Sound.{IsSound}
 use Rattle.abi_calls.specs.Turn.{turned, turned_at, run_in, trapped, with_run_of, picked, pick_of}
 use Rattle.abi_calls.specs.Turn as host
 use Rattle.abi_calls.proofs.NumberMaps.{get_same, get_other}
 use Rattle.abi_calls.proofs.Facts.{awoken_none}
-use Rattle.mono_model.specs.Machine as mono
-use Rattle.mono_model.specs.Machine.{Mono, process_at, thread_at, with_thread, made_ready}
-use Rattle.mono_model.specs.Calls.{Caller, served, memory_at}
+use Rattle.mono_model.specs.Machine.{Mono, thread_at, with_thread, made_ready}
+use Rattle.mono_model.specs.Calls.{served, memory_at}
 use Rattle.mono_model.specs.Turns as machine
 use Rattle.mono_model.specs.Turns.{turn_of, turn_at, with_run, with_memory_in, after_run}
 use Rattle.libos_state.specs.declared.notes.ProcessNote.{ProcessNote}
 use Rattle.libos_state.specs.declared.notes.ThreadNote.{ThreadNote}
 use Rattle.libos_state.specs.declared.state.LibOs.{LibOs}
-use Rattle.libos_state.specs.Records.{base, memory_of_object, context_of, process_if, processes_of, threads_of, tids_of}
+use Rattle.libos_state.specs.Records.{base, memory_of_object, context_of, process_if, threads_of, tids_of}
 use Rattle.libos_state.specs.Entered.{entered_with}
 use Rattle.libos_state.specs.Meaning.{caller_in}
 use Rattle.libos_state.specs.Fits.{FitsRecords, FitsIdle, FitsServed, is_closable}
 use Rattle.libos_state.proofs.Bases.{processes_set, threads_set, tids_one, process_there, memory_there, thread_there}
+use Rattle.libos_state.proofs.Idle.{idle_ready}
 use Rattle.libos_state.proofs.Served.{Running, running_of, records_over, process_apart, closable_apart, closable_apart_process, caller_thread, caller_process}
 
 -- The one ready thread is picked.
@@ -43,10 +42,6 @@ first_there h place ready is first = λ i. slice_get (is i) (first i)
 
 first_left : (h place : ℕ) (ready : List ℕ) → ready ≡ h ∷ [] → place ≡ 0 → remove_at ready place ≡ []
 first_left h place ready is first = λ i. remove_at (is i) (first i)
-
--- The one ready thread of the machine.
-pub idle_ready : (os : LibOs) (w : World) (fits : FitsIdle os w.objects) → (base os w).ready ≡ fits.thread.tid ∷ []
-idle_ready os w fits = ap (tids_of os.threads) fits.ready ∙ tids_one os.threads fits.thread fits.thread.handle fits.records.threads refl
 
 -- What a trap leaves: the library OS can serve it, and serving it is the machine's turn.
 pub record Traps (os : LibOs) (w : World) (u : Upcall) (o : Objects) : Type 0 where

@@ -1,21 +1,18 @@
 -- The stages of a write: its bytes are read from the caller's memory, and go to the stream.
-use Rattle.std.specs.Prelude.{◌≡◌, ◌≢◌, ℕ, ◌≤◌, ◌==◌, nat_lt, cond, List, [], ◌∷◌, ◌++◌, length, min, bit_and, is_some, unwrap_or}
-use Rattle.std.specs.Ordering.{nat_cmp}
-use Rattle.std.specs.FinMap.{get, empty}
+use Rattle.std.specs.Prelude.{◌≡◌, ◌≢◌, ℕ, ◌≤◌, ◌==◌, nat_lt, List, [], ◌∷◌, length, bit_and, unwrap_or}
+use Rattle.std.specs.FinMap.{empty}
 use Rattle.std.specs.Option.{option_map}
 use Rattle.std.specs.declared.option.Option.{Option}
 use Rattle.std.specs.declared.option.Option.TheVariants.{None, Some}
-use Rattle.std.proofs.Common.{refl, sym, ap, subst, ◌∙◌, arith, eq-eqb, ne_eqb}
+use Rattle.std.proofs.Common.{refl, sym, ap, ◌∙◌, arith, eq-eqb, ne_eqb}
 use Rattle.std.proofs.lemmas.Bool.{cond-true, cond-false, le-ltb}
 use Rattle.guest_space.specs.Space.{Space, memory_of, bytes_from}
 use Rattle.guest_space.specs.Access.{AccessFault, Missing, Forbidden, first_fault}
 use Rattle.guest_space.proofs.Spaces.{length-bytes_from}
-use Rattle.abi_calls.specs.declared.call.StreamName.{StreamName}
-use Rattle.abi_calls.specs.declared.call.StreamName.TheVariants as stream
 use Rattle.abi_calls.specs.declared.reply.Reply.{Reply}
 use Rattle.abi_calls.specs.declared.reply.Reply.TheVariants.{Bytes, TooBig}
 use Rattle.abi_calls.specs.declared.threads.Upcall.{Upcall}
-use Rattle.abi_calls.specs.Objects.{Object, Objects, object_at, running}
+use Rattle.abi_calls.specs.Objects.{Objects, object_at, running}
 use Rattle.abi_calls.specs.World.{World, Answer}
 use Rattle.abi_calls.specs.Memory.{memory_read, unless_fault}
 use Rattle.abi_calls.specs.Streams.{stream_of, stream_written, written_to}
@@ -24,7 +21,7 @@ use Rattle.abi_calls.specs.Sound.{IsSound}
 use Rattle.mono_model.specs.Machine as mono
 use Rattle.mono_model.specs.Machine.{Mono, register, returned}
 use Rattle.mono_model.specs.Calls.{Caller, WRITE, EFAULT, error, moved, served, system_call, write_to, write_unless, write_bytes, writable, description_of, memory_at}
-use Rattle.mono_model.specs.Starting.{Started, Runs}
+use Rattle.mono_model.specs.Starting.{Runs}
 use Rattle.libos_state.specs.declared.cont.Cont.{Cont}
 use Rattle.libos_state.specs.declared.cont.Stage.TheVariants.{SetContext, ReadMemory, WriteStream}
 use Rattle.libos_state.specs.declared.notes.Description.{Description}
@@ -33,9 +30,9 @@ use Rattle.libos_state.specs.declared.notes.Kind.{Kind}
 use Rattle.libos_state.specs.declared.notes.Kind.TheVariants.{ConIn, ConOut, ConErr}
 use Rattle.libos_state.specs.declared.notes.ProcessNote.{ProcessNote}
 use Rattle.libos_state.specs.declared.state.LibOs.{LibOs}
-use Rattle.libos_state.specs.Records.{base, stream_of_kind, described, described_in, description_named, descriptor_named, description_behind, description_seen, memory_of_object}
+use Rattle.libos_state.specs.Records.{base, stream_of_kind, described, described_in, description_named, descriptor_named, description_behind, description_seen}
 use Rattle.libos_state.specs.Pending.{asked, upcall_in, argument, number, handle_of, wanted_stream}
-use Rattle.libos_state.specs.Answered.{bare, finishes, goes_on}
+use Rattle.libos_state.specs.Answered.{bare, goes_on}
 use Rattle.libos_state.specs.Meaning.{caller_in, stream_in, stream_described}
 use Rattle.libos_state.specs.Fits.{FitsServed, FitsWrite, FitsWriteBytes}
 use Rattle.libos_state.proofs.Holds.{Holds}
