@@ -1,0 +1,12 @@
+//! The objects of a host: processes with their pages, threads, events and open streams, each under a number,
+//! the lists of threads, and the calls and turns that need nothing of the outside.
+#![tactic(auto)]
+
+mod counting;
+mod handles;
+mod numbers;
+mod table;
+
+pub use counting::Counting;
+pub use handles::Handles;
+pub use numbers::Numbers;
