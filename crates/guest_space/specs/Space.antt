@@ -1,6 +1,7 @@
 -- The memory of a process: pages of 4,096 bytes by number, each with its rights, and the map from addresses
 -- to bytes with rights that they make.
-use Rattle.std.specs.Prelude.{◌≡◌, ℕ, zero, suc, ◌+◌, ◌*◌, ◌%◌, ◌/◌, ◌^◌, ◌<◌, ◌≤◌, Bool, if◌then◌else◌, ◌&&◌, nat_lt, nat_le, List, [], ◌∷◌, map, length, slice_index, replicate}
+use Rattle.std.specs.Prelude.{◌≡◌, ℕ, zero, suc, ◌+◌, ◌*◌, ◌%◌, ◌/◌, ◌^◌, ◌<◌, ◌≤◌, Bool, if◌then◌else◌, ◌&&◌, nat_lt, nat_le, List, [], ◌∷◌, map, length, slice_index, replicate, refl}
+use Rattle.std.specs.Coded.{Coded, code_by, coded×, coded_ℕ, coded_list}
 use Rattle.std.specs.Ordering.{nat_cmp}
 use Rattle.std.specs.FinMap.{FinMap, get, insert, remove, entries, from_entries}
 use Rattle.std.specs.declared.option.Option.{Option}
@@ -11,6 +12,10 @@ use Rattle.rv_core.specs.Memory.{Memory, Cell}
 pub record Frame : Type 0 where
   pub rights : ℕ
   pub bytes : List ℕ
+
+-- A page is stored as its rights and its bytes.
+abbrev pub frame_code : Coded Frame
+frame_code = code_by (ℕ × List ℕ) (coded× coded_ℕ (coded_list coded_ℕ)) (λ f. (f.rights, f.bytes)) (λ p. record { rights = p.0; bytes = p.1 }) (λ _. refl)
 
 -- The pages by number: page p has the addresses from 4,096 p on.
 abbrev pub Space : Type 0

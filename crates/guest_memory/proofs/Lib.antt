@@ -1,0 +1,4 @@
+pub mod Order
+pub mod InPage
+pub mod Writes
+pub mod Numbers

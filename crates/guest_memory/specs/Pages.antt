@@ -1,0 +1,45 @@
+-- Lists of pages by rising number, and the space that they make.
+use Rattle.std.specs.Prelude.{◌≡◌, ℕ, ◌<◌, ◌≤◌, List, [], ◌∷◌, map, length, slice_index_or, Some, None}
+use Rattle.std.specs.Ordering.{nat_cmp}
+use Rattle.std.specs.FinMap.{from_entries, get}
+use Rattle.guest_space.specs.Space.{Frame, Space, IsFrame}
+use Rattle.guest_memory.specs.declared.page.Page.{Page}
+
+abbrev pub frame_of : Page → Frame
+frame_of p = record { rights = p.rights; bytes = p.bytes }
+
+abbrev pub entry_of : Page → (ℕ × Frame)
+entry_of p = (p.number, frame_of p)
+
+-- The space that a list of pages makes.
+abbrev pub space_of : List Page → Space
+space_of pages = from_entries {R = nat_cmp} (map entry_of pages)
+
+-- The numbers rise from above n on, and each page is one that a process may have.
+abbrev pub AllAbove : ℕ → List Page → Type 0
+AllAbove n [] = Unit {0}
+AllAbove n (p ∷ pages) = (n < p.number) × IsFrame p.number (frame_of p) × AllAbove p.number pages
+
+-- The numbers rise, and each page is one that a process may have.
+abbrev pub AreInOrder : List Page → Type 0
+AreInOrder pages = AllAbove 0 pages
+
+-- The page of a number stands at a place.
+pub record IsPlaceOf (pages : List Page) (number place : ℕ) : Type 0 where
+  pub within : place < length pages
+  pub is : (d : Page) → (slice_index_or pages place d).number ≡ number
+
+-- The pages before a place have lower numbers, and those from it on have higher ones.
+pub record IsGap (pages : List Page) (number place : ℕ) : Type 0 where
+  pub within : place ≤ length pages
+  pub lower : (k : ℕ) (d : Page) → k < place → (slice_index_or pages k d).number < number
+  pub higher : (k : ℕ) (d : Page) → place ≤ k → k < length pages → number < (slice_index_or pages k d).number
+
+-- The page of a number stands at a place, and the space has it.
+pub record IsFound (pages : List Page) (number place : ℕ) : Type 0 where
+  pub within : place < length pages
+  pub is : (d : Page) → (slice_index_or pages place d).number ≡ number
+  pub held : (d : Page) → get (space_of pages) number ≡ Some (frame_of (slice_index_or pages place d))
+
+abbrev pub IsAbsent : List Page → ℕ → Type 0
+IsAbsent pages number = get (space_of pages) number ≡ None

@@ -1,0 +1,11 @@
+//! The memory of a process: pages of 4,096 bytes with rights, which the processor reads, writes and runs.
+#![tactic(auto)]
+
+mod error;
+mod page;
+mod pages;
+mod place;
+mod word;
+
+pub use error::PageError;
+pub use pages::Pages;

@@ -1,0 +1,172 @@
+ghost use Rattle.std.specs.Prelude.{◌≡◌, ℕ, ◌+◌, ◌^◌, ◌<◌, ◌≤◌, length, IfSome, is_some};
+ghost use Rattle.rv_core.specs.Memory.{IsSize, byte_at, number_at, storable, stored, with_byte_at, written};
+ghost use Rattle.guest_space.specs.Space.{memory_of};
+ghost use Rattle.guest_memory.specs.Pages.{AreInOrder, space_of};
+ghost use Rattle.guest_memory.specs.PageBytes.{bytes_number, with_number};
+
+use crate::page::{PAGE_SIZE, Page, WRITE};
+use crate::place::{Hints, find};
+
+/// The number of `size` bytes at `at` in a page, little-endian.
+#[inline]
+fn number_in(bytes: &[u8; PAGE_SIZE], at: usize, size: u8) -> u64
+    requires size { IsSize size }
+    requires within { at + size ≤ 4096 }
+    ensures value { result ≡ bytes_number bytes.now at size }
+    ensures small { result < 256 ^ size }
+{
+    match size {
+        1 => u64::from(bytes[at]),
+        2 => u64::from(u16::from_le_bytes([bytes[at], bytes[at + 1]])),
+        4 => u64::from(u32::from_le_bytes([
+            bytes[at],
+            bytes[at + 1],
+            bytes[at + 2],
+            bytes[at + 3],
+        ])),
+        _ => u64::from_le_bytes([
+            bytes[at],
+            bytes[at + 1],
+            bytes[at + 2],
+            bytes[at + 3],
+            bytes[at + 4],
+            bytes[at + 5],
+            bytes[at + 6],
+            bytes[at + 7],
+        ]),
+    }
+}
+
+/// Puts the low `size` bytes of `value` at `at` into a page, little-endian.
+#[inline]
+fn put_in(bytes: &mut [u8; PAGE_SIZE], at: usize, size: u8, mut value: u64)
+    requires within { at + size ≤ 4096 }
+    ensures { bytes.new ≡ with_number bytes.old at size value }
+{
+    for k in 0..size as usize {
+        bytes[at + k] = (value % 256) as u8;
+        value /= 256;
+    }
+}
+
+/// The byte at `at`, where it is there with the right.
+fn byte(pages: &[Page], hints: &Hints, at: u64, right: u8) -> Option<u8>
+    requires { AreInOrder pages.now }
+    ensures { result ≡ byte_at (memory_of (space_of pages.now)) right at }
+{
+    match find(pages, hints, at / PAGE_SIZE as u64) {
+        Some(place) => {
+            let page = &pages[place];
+            if page.rights & right == right {
+                Some(page.bytes[(at % PAGE_SIZE as u64) as usize])
+            } else {
+                None
+            }
+        }
+        None => None,
+    }
+}
+
+/// The number of `size` bytes at `at`, little-endian, byte by byte: of an access that leaves its first page.
+#[cold]
+fn number_across(pages: &[Page], hints: &Hints, at: u64, size: u8, right: u8) -> Option<u64>
+    requires order { AreInOrder pages.now }
+    requires size { size ≤ 8 }
+    ensures value { result ≡ number_at (memory_of (space_of pages.now)) right at size }
+    ensures small { IfSome result (λ number. number < 256 ^ size) }
+{
+    if size == 0 {
+        return Some(0);
+    }
+    let low = match byte(pages, hints, at, right) {
+        Some(low) => low,
+        None => return None,
+    };
+    match number_across(pages, hints, at.wrapping_add(1), size - 1, right) {
+        Some(high) => Some(u64::from(low) + high * 256),
+        None => None,
+    }
+}
+
+/// The number of `size` bytes at `at`, little-endian, where each is there with the right.
+#[inline]
+pub fn number_with(pages: &[Page], hints: &Hints, at: u64, size: u8, right: u8) -> Option<u64>
+    requires order { AreInOrder pages.now }
+    requires size { IsSize size }
+    ensures value { result ≡ number_at (memory_of (space_of pages.now)) right at size }
+    ensures small { IfSome result (λ number. number < 256 ^ size) }
+{
+    let offset = (at % PAGE_SIZE as u64) as usize;
+    if offset + size as usize > PAGE_SIZE {
+        return number_across(pages, hints, at, size, right);
+    }
+    match find(pages, hints, at / PAGE_SIZE as u64) {
+        Some(place) => {
+            let page = &pages[place];
+            if page.rights & right == right {
+                Some(number_in(&page.bytes, offset, size))
+            } else {
+                None
+            }
+        }
+        None => None,
+    }
+}
+
+/// Puts a byte at `at`, where a page is there.
+fn put_byte(pages: &mut [Page], hints: &Hints, at: u64, byte: u8)
+    requires { AreInOrder pages.old }
+    ensures order { AreInOrder pages.new }
+    ensures after { memory_of (space_of pages.new) ≡ with_byte_at (memory_of (space_of pages.old)) at byte }
+{
+    if let Some(place) = find(pages, hints, at / PAGE_SIZE as u64) {
+        pages[place].bytes[(at % PAGE_SIZE as u64) as usize] = byte;
+    }
+}
+
+/// Puts the low `size` bytes of `value` at `at`, byte by byte: of an access that leaves its first page.
+#[cold]
+fn put_across(pages: &mut [Page], hints: &Hints, mut at: u64, size: u8, mut value: u64)
+    requires { AreInOrder pages.old }
+    ensures order { AreInOrder pages.new }
+    ensures after { memory_of (space_of pages.new) ≡ written (memory_of (space_of pages.old)) at size value }
+{
+    for _k in 0..size {
+        put_byte(pages, hints, at, (value % 256) as u8);
+        at = at.wrapping_add(1);
+        value /= 256;
+    }
+}
+
+/// Puts the low `size` bytes of `value` at `at`, little-endian; `false` where a byte isn't there or can't be
+/// written, and then nothing changes.
+#[inline]
+pub fn put(pages: &mut [Page], hints: &Hints, at: u64, size: u8, value: u64) -> bool
+    requires order { AreInOrder pages.old }
+    requires size { IsSize size }
+    ensures order { AreInOrder pages.new }
+    ensures done { result ≡ storable (memory_of (space_of pages.old)) at size }
+    ensures after { memory_of (space_of pages.new)
+        ≡ stored (memory_of (space_of pages.old)) at size value }
+{
+    let offset = (at % PAGE_SIZE as u64) as usize;
+    if offset + size as usize > PAGE_SIZE {
+        if number_across(pages, hints, at, size, WRITE).is_none() {
+            return false;
+        }
+        put_across(pages, hints, at, size, value);
+        return true;
+    }
+    match find(pages, hints, at / PAGE_SIZE as u64) {
+        Some(place) => {
+            let page = &mut pages[place];
+            if page.rights & WRITE == WRITE {
+                put_in(&mut page.bytes, offset, size, value);
+                true
+            } else {
+                false
+            }
+        }
+        None => false,
+    }
+}
