@@ -1,6 +1,7 @@
-ghost use Rattle.std.specs.Prelude.{◌≡◌, ◌↔◌, IsTrue, IsSome, IfOk, OnErr};
+ghost use Rattle.std.specs.Prelude.{◌≡◌, ℕ, ◌^◌, ◌<◌, ◌↔◌, length, IsTrue, IsSome, IfOk, OnErr};
 ghost use Rattle.std.specs.Option.{option_copied};
 ghost use Rattle.std.specs.FinMap as map;
+ghost use Rattle.std.specs.Map.Iter.{ShowsInOrder, deref, deref_pair};
 ghost use Rattle.host_objects.specs.Numbers.{IsUnused};
 ghost use Rattle.host_objects.specs.Handles.{Adds};
 
@@ -8,6 +9,7 @@ use crate::numbers::Numbers;
 use crate::table::Table;
 use bas_edge::Memory;
 use std::alloc::Global;
+use std::collections::btree_map::{Iter, Values};
 use std::marker::Model;
 
 /// Values under numbers that are given when a value is added and taken back when it goes.
@@ -84,6 +86,23 @@ impl<N: Numbers + Drop, V: Drop> Handles<N, V> {
     {
         self.table.remove(number);
         self.numbers.back(number);
+    }
+
+    /// The numbers with their values, by rising number.
+    pub fn iter(&self) -> Iter<'_, u64, V>
+        ensures rest { result ≡ map.entries self.now }
+        ensures runs { ShowsInOrder (deref_pair {K = ℕ} {X = V}) }
+    {
+        self.table.iter()
+    }
+
+    /// The values, by rising number.
+    pub fn values(&self) -> Values<'_, u64, V>
+        ensures rest { result ≡ map.values self.now }
+        ensures runs { ShowsInOrder (deref {X = V}) }
+        ensures fits { length result < 2 ^ 63 }
+    {
+        self.table.values()
     }
 
     /// Whether there is no value.

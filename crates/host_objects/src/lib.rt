@@ -4,9 +4,12 @@
 
 mod counting;
 mod handles;
+mod kinds;
 mod numbers;
+mod objects;
 mod table;
 
 pub use counting::Counting;
 pub use handles::Handles;
 pub use numbers::Numbers;
+pub use objects::Objects;

@@ -1,13 +1,14 @@
-ghost use Rattle.std.specs.Prelude.{◌≡◌, ℕ, ◌↔◌, IsTrue, IsSome, IfOk, OnOk, OnErr};
+ghost use Rattle.std.specs.Prelude.{◌≡◌, ℕ, ◌^◌, ◌<◌, ◌↔◌, length, IsTrue, IsSome, IfOk, OnOk, OnErr};
 ghost use Rattle.std.specs.Option.{option_copied};
 ghost use Rattle.std.specs.Ordering.{nat_cmp};
 ghost use Rattle.std.specs.FinMap as map;
+ghost use Rattle.std.specs.Map.Iter.{ShowsInOrder, deref, deref_pair};
 
 use bas_edge::Memory;
 use std::alloc::Global;
 use std::collections::BTreeMap;
+use std::collections::btree_map::{Iter, Values};
 use std::marker::Model;
-use std::mem;
 
 /// A map from numbers to values.
 #[derive(Drop)]
@@ -62,6 +63,23 @@ impl<V: Drop> Table<V> {
         ensures { self.new ≡ map.remove self.old number }
     {
         self.entries.remove(&number);
+    }
+
+    /// The numbers with their values, by rising number.
+    pub(crate) fn iter(&self) -> Iter<'_, u64, V>
+        ensures rest { result ≡ map.entries self.now }
+        ensures runs { ShowsInOrder (deref_pair {K = ℕ} {X = V}) }
+    {
+        self.entries.iter()
+    }
+
+    /// The values, by rising number.
+    pub(crate) fn values(&self) -> Values<'_, u64, V>
+        ensures rest { result ≡ map.values self.now }
+        ensures runs { ShowsInOrder (deref {X = V}) }
+        ensures fits { length result < 2 ^ 63 }
+    {
+        self.entries.values()
     }
 
     /// Whether there is no number.
