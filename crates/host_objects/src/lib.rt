@@ -8,6 +8,7 @@ mod kinds;
 mod numbers;
 mod objects;
 mod table;
+mod threads;
 
 pub use counting::Counting;
 pub use handles::Handles;
