@@ -2,3 +2,4 @@ pub mod Numbers
 pub mod Counting
 pub mod Handles
 pub mod Objects
+pub mod Streams

@@ -7,6 +7,9 @@ mod handles;
 mod kinds;
 mod numbers;
 mod objects;
+mod processes;
+mod settings;
+mod streams;
 mod table;
 mod threads;
 

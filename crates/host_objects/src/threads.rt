@@ -57,7 +57,8 @@ impl<N: Numbers + Drop> Objects<N> {
         if !self.schedule.rests(thread) {
             return Reply::Busy;
         }
-        self.handles.set(thread, Object::Thread { process, context });
+        self.handles
+            .set(thread, Object::Thread { process, context });
         Reply::Done
     }
 

@@ -1,5 +1,4 @@
 use Rattle.std.proofs.Common.{refl}
-use Rattle.host_objects.specs.Objects.{objects_of}
 use Rattle.host_objects.proofs.Rows.{event_row}
 use Rattle.host_objects.proofs.objects.Objects.event_create.Goals as goal
 
