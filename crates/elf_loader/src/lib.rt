@@ -1,0 +1,84 @@
+//! Executable files of ELF-64 for RISC-V, as runs of pages of memory.
+#![tactic(auto)]
+
+use bas_items::Items;
+use thiserror::Error;
+
+mod check;
+mod file;
+mod header;
+
+/// What a program asks for in memory.
+#[derive(Debug, Drop)]
+pub struct Program {
+    /// The address of the first instruction.
+    pub entry: u64,
+    /// Runs of pages, rising.
+    pub runs: Items<Run>,
+    /// The address after the last page.
+    pub end: u64,
+}
+
+/// Adjacent pages of 4,096 bytes with equal rights.
+#[derive(Debug, Drop)]
+pub struct Run {
+    /// The number of the first page, which begins at address 4,096 times that number.
+    pub page: u64,
+    /// The sum of 1 to read, 2 to write and 4 to run.
+    pub rights: u8,
+    /// The bytes of all the pages.
+    pub bytes: Items<u8>,
+}
+
+/// Why a file is no program that can be loaded: the first of these that fits.
+#[derive(Clone, Copy, Debug, PartialEq, Eq, Error)]
+pub enum ElfError {
+    /// The file has fewer than 64 bytes.
+    #[error("shorter than a file header")]
+    Short,
+    /// The first four bytes aren't those of an ELF file.
+    #[error("no ELF file")]
+    Magic,
+    /// The class isn't 64 bits.
+    #[error("not of 64 bits")]
+    Class,
+    /// The byte order isn't little-endian.
+    #[error("not little-endian")]
+    Order,
+    /// The type isn't that of an executable file.
+    #[error("not executable")]
+    Kind,
+    /// The machine isn't RISC-V.
+    #[error("not for RISC-V")]
+    Machine,
+    /// The entries of the program header table aren't of 56 bytes, or the table leaves the file.
+    #[error("no table of program headers")]
+    Table,
+    /// A program header asks for an interpreter.
+    #[error("asks for an interpreter")]
+    Interp,
+    /// The program header of that number has more bytes in the file than in memory, or leaves the file or the
+    /// pages of a process.
+    #[error("segment {0} is misplaced")]
+    Segment(u64),
+    /// The segment of that number shares an address with an earlier one.
+    #[error("segment {0} overlaps")]
+    Overlap(u64),
+    /// The program has more than 1,008 pages.
+    #[error("too many pages")]
+    Big,
+    /// The entry isn't a multiple of 4 in a page with the right to run.
+    #[error("no entry")]
+    Entry,
+}
+
+/// Why there is no program.
+#[derive(Clone, Copy, Debug, PartialEq, Eq, Error)]
+pub enum LoadError {
+    /// The file is refused.
+    #[error("{0}")]
+    Refused(ElfError),
+    /// Memory ran out.
+    #[error("out of memory")]
+    Memory,
+}
