@@ -1,2 +1,4 @@
 pub mod Below
+pub mod PageLists
 pub mod Refusals
+pub mod TouchedPages

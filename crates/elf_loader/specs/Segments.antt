@@ -1,6 +1,8 @@
 -- Segments: the parts of memory that the program headers of type PT_LOAD ask for.
-use Rattle.std.specs.Prelude.{ℕ, zero, suc, ◌+◌, ◌-◌, ◌*◌, ◌/◌, ◌==◌, nat_lt, nat_le, max, Bool, false, ◌&&◌, ◌||◌, if◌then◌else◌, List, slice_index, bit_or}
+use Rattle.std.specs.Prelude.{◌≡◌, ◌<◌, ◌≤◌, true, ℕ, zero, suc, ◌+◌, ◌-◌, ◌*◌, ◌/◌, ◌==◌, nat_lt, nat_le, max, min, Bool, false, ◌&&◌, ◌||◌, if◌then◌else◌, List, slice_index, bit_or}
 use Rattle.std.specs.Int.{bit_at}
+use Rattle.std.specs.declared.option.Option.{Option}
+use Rattle.std.specs.declared.option.Option.TheVariants.{None, Some}
 use Rattle.elf_loader.specs.declared.header.ProgramHeader.{ProgramHeader}
 use Rattle.elf_loader.specs.Fields.{e_phnum, program_header}
 
@@ -80,3 +82,16 @@ byte_below file address (suc n) =
 
 abbrev pub byte_of : List ℕ → ℕ → ℕ
 byte_of file address = byte_below file address (e_phnum file)
+
+-- The least page from one on that passes the test, if there is one.
+abbrev pub IsNext : (ℕ → Bool) → ℕ → Option ℕ → Type 0
+IsNext test from None = (page : ℕ) → from ≤ page → test page ≡ false
+IsNext test from (Some next) = (from ≤ next) × (test next ≡ true) × ((page : ℕ) → from ≤ page → page < next → test page ≡ false)
+
+abbrev pub lesser : Option ℕ → ℕ → ℕ
+lesser None page = page
+lesser (Some least) page = min least page
+
+-- The page is touched, and has these rights.
+unfoldable pub has_rights : List ℕ → ℕ → ℕ → Bool
+has_rights file rights page = is_touched file page && page_rights file page == rights

@@ -1,5 +1,5 @@
 ghost use Rattle.std.specs.Prelude.{◌≡◌, ◌+◌, ◌*◌, ◌<◌, ◌≤◌, None, Some, length, MatchResult};
-ghost use Rattle.elf_loader.specs.Fields.{e_phoff, e_phnum, program_header};
+ghost use Rattle.elf_loader.specs.Fields.{e_entry, e_phoff, e_phnum, program_header};
 ghost use Rattle.elf_loader.specs.Refusal.{file_refusal};
 
 use crate::ElfError;
@@ -16,6 +16,7 @@ pub struct ElfFile<'a> {
     pub bytes: &'a [u8],
     pub table: usize,
     pub count: usize,
+    ghost long: { 64 ≤ length bytes.now },
     ghost table_at: { table ≡ e_phoff bytes.now },
     ghost counted: { count ≡ e_phnum bytes.now },
     ghost within: { 0 < count → table + 56 * count ≤ length bytes.now },
@@ -59,6 +60,13 @@ impl<'a> ElfFile<'a> {
             table,
             count,
         })
+    }
+
+    /// The address of the first instruction.
+    pub fn entry(&self) -> u64
+        ensures { result ≡ e_entry self.now.bytes.now }
+    {
+        u64_at(self.bytes, 24)
     }
 
     /// The program header of that number.

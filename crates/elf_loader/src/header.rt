@@ -78,7 +78,8 @@ impl ProgramHeader {
     /// The page of the last byte.
     pub fn last_page(&self) -> u64
         requires { is_segment self.now ≡ true }
-        ensures { result ≡ last_page self.now }
+        ensures value { result ≡ last_page self.now }
+        ensures small { result < 2 ^ 53 }
     {
         ((self.memory_end() - 1) / u128::from(PAGE_SIZE)) as u64
     }
