@@ -1,5 +1,5 @@
 -- Segments: the parts of memory that the program headers of type PT_LOAD ask for.
-use Rattle.std.specs.Prelude.{◌≡◌, ◌<◌, ◌≤◌, true, ℕ, zero, suc, ◌+◌, ◌-◌, ◌*◌, ◌/◌, ◌==◌, nat_lt, nat_le, max, min, Bool, false, ◌&&◌, ◌||◌, if◌then◌else◌, List, slice_index, bit_or}
+use Rattle.std.specs.Prelude.{◌≡◌, ◌<◌, ◌≤◌, true, ℕ, zero, suc, ◌+◌, ◌-◌, ◌*◌, ◌/◌, ◌^◌, ◌==◌, nat_lt, nat_le, max, min, Bool, false, ◌&&◌, ◌||◌, if◌then◌else◌, List, length, slice_index, bit_or}
 use Rattle.std.specs.Int.{bit_at}
 use Rattle.std.specs.declared.option.Option.{Option}
 use Rattle.std.specs.declared.option.Option.TheVariants.{None, Some}
@@ -40,6 +40,17 @@ meets h other = is_segment h && (is_segment other && (nat_lt h.p_vaddr (memory_e
 unfoldable pub segment_byte : List ℕ → ProgramHeader → ℕ → ℕ
 segment_byte file h address =
     if nat_lt (address - h.p_vaddr) h.p_filesz then slice_index file (h.p_offset + (address - h.p_vaddr)) else 0
+
+-- The address holds a byte of the file.
+abbrev pub holds_file_byte : ProgramHeader → ℕ → Bool
+holds_file_byte h address = nat_le h.p_vaddr address && nat_lt address (h.p_vaddr + h.p_filesz)
+
+-- The segment has its place in the file and in the pages of a process.
+pub record IsPlaced (file : List ℕ) (h : ProgramHeader) : Type 0 where
+  pub fits : h.p_filesz ≤ h.p_memsz
+  pub in_file : 0 < h.p_filesz → h.p_offset + h.p_filesz ≤ length file
+  pub above : 4096 ≤ h.p_vaddr
+  pub below : memory_end h ≤ (2 ^ 26 - 16) * 4096
 
 -- Pages
 

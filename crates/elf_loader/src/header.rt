@@ -1,6 +1,6 @@
-ghost use Rattle.std.specs.Prelude.{◌≡◌, ◌+◌, ◌^◌, ◌<◌, ◌≤◌, true, length};
+ghost use Rattle.std.specs.Prelude.{◌≡◌, ℕ, ◌+◌, ◌-◌, ◌^◌, ◌<◌, ◌≤◌, true, if◌then◌else◌, length, slice_index};
 ghost use Rattle.elf_loader.specs.Fields.{number_at, header_at};
-ghost use Rattle.elf_loader.specs.Segments.{is_segment, memory_end, meets, first_page, last_page, touches, segment_rights};
+ghost use Rattle.elf_loader.specs.Segments.{IsPlaced, holds_file_byte, is_segment, memory_end, meets, first_page, last_page, touches, segment_rights};
 ghost use Rattle.elf_loader.specs.Refusal.{is_misplaced, leaves_file};
 
 const PT_LOAD: u32 = 1;
@@ -66,6 +66,25 @@ impl ProgramHeader {
     {
         self.p_filesz > 0
             && u128::from(self.p_offset) + u128::from(self.p_filesz) > file.len() as u128
+    }
+
+    /// Writes the bytes that it has in the file to their places in memory from the address `start` on.
+    pub fn copy_into(&self, file: &[u8], start: u64, memory: &mut [u8])
+        requires placed { IsPlaced file.now self.now }
+        requires small { start + length memory.old ≤ 2 ^ 38 }
+        ensures { (k : ℕ) → k < length memory.old → slice_index memory.new k
+            ≡ (if holds_file_byte self.now (start + k)
+                then slice_index file.now (self.now.p_offset + (start + k - self.now.p_vaddr))
+                else slice_index memory.old k) }
+    {
+        let from = start.max(self.p_vaddr);
+        let end = (start + memory.len() as u64).min(self.p_vaddr + self.p_filesz);
+        if from < end {
+            let len = (end - from) as usize;
+            let source = (self.p_offset + (from - self.p_vaddr)) as usize;
+            let at = (from - start) as usize;
+            memory[at..at + len].copy_from_slice(&file[source..source + len]);
+        }
     }
 
     /// The page of the first byte.

@@ -7,6 +7,7 @@ use thiserror::Error;
 mod check;
 mod file;
 mod header;
+mod image;
 mod pages;
 
 /// What a program asks for in memory.
