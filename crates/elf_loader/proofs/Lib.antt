@@ -1,4 +1,5 @@
 pub mod Below
+pub mod MemoryBytes
 pub mod PageLists
 pub mod Refusals
 pub mod TouchedPages
