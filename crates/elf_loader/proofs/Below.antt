@@ -74,3 +74,11 @@ module _ (value : ℕ → ℕ) where
       (λ (e : j ≡ n). let same = ap value e in omega arith)
       (λ (l : j < n). let front = max_below-at n j l in omega arith)
       (at_last j n below)
+
+pub max_below-le : (value : ℕ → ℕ) (bound n : ℕ) → ((j : ℕ) → j < n → value j ≤ bound) → max_below value n ≤ bound
+unfolding max_below
+max_below-le value bound zero le = omega arith
+max_below-le value bound (suc n) le =
+    let front = max_below-le value bound n (λ j below. le j (omega arith)) in
+    let last = le n (omega arith) in
+    omega arith

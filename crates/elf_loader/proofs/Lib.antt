@@ -2,4 +2,5 @@ pub mod Below
 pub mod MemoryBytes
 pub mod PageLists
 pub mod Refusals
+pub mod RunLists
 pub mod TouchedPages

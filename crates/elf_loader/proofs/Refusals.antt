@@ -1,12 +1,12 @@
 -- The first refusal of the program headers.
-use Rattle.std.proofs.Common.{◌≡◌, ℕ, zero, suc, ◌+◌, ◌-◌, ◌*◌, ◌^◌, ◌<◌, Bool, true, false, cond, ltb, length, List, Option, Some, None, refl, ap, ◌∙◌, sym, subst, arith, add-one, ⊎_elim}
-use Rattle.std.proofs.lemmas.Bool.{and_cases, or_parts, both_ways, ltb-false}
+use Rattle.std.proofs.Common.{◌≡◌, ℕ, zero, suc, ◌+◌, ◌-◌, ◌*◌, ◌^◌, ◌<◌, ◌≤◌, ◌/◌, Bool, true, false, cond, ltb, length, List, Option, Some, None, refl, ap, ◌∙◌, sym, subst, arith, add-one, ⊎_elim}
+use Rattle.std.proofs.lemmas.Bool.{and_cases, or_parts, both_ways, ltb-false, cond_both}
 use Rattle.elf_loader.specs.declared.ElfError.{ElfError}
 use Rattle.elf_loader.specs.declared.ElfError.TheVariants.{Interp, Segment, Overlap}
-use Rattle.elf_loader.specs.Fields.{program_header}
-use Rattle.elf_loader.specs.Segments.{is_segment, memory_end, meets, IsPlaced}
+use Rattle.elf_loader.specs.Fields.{e_phnum, program_header}
+use Rattle.elf_loader.specs.Segments.{is_segment, memory_end, last_page, meets, end_page, IsPlaced}
 use Rattle.elf_loader.specs.Refusal.{or_later, is_misplaced, leaves_file, leaves_pages, meets_earlier, header_refusal, header_refusals}
-use Rattle.elf_loader.proofs.Below.{at_last, any_below-false}
+use Rattle.elf_loader.proofs.Below.{at_last, any_below-false, max_below-le}
 
 or_later-none : (first later : Option ElfError) → or_later first later ≡ None → (first ≡ None) × (later ≡ None)
 or_later-none None later none = (refl, none)
@@ -75,3 +75,14 @@ module _ (file : List ℕ) where
   pub meets-from_none : (i j : ℕ) → j < i → header_refusal file i ≡ None → meets (program_header file i) (program_header file j) ≡ false
   unfolding meets_earlier
   meets-from_none i j below none = any_below-false (λ k. meets (program_header file i) (program_header file k)) i j below (header_refusal-parts i none).1
+
+-- the pages end below those of the stack
+pub end_page-small : (file : List ℕ) → header_refusals file (e_phnum file) ≡ None → end_page file ≤ 2 ^ 26 - 16
+unfolding end_page
+end_page-small file none =
+    max_below-le (λ i. cond (is_segment (program_header file i)) (last_page (program_header file i) + 1) 0) (2 ^ 26 - 16) (e_phnum file)
+    (λ i below.
+      let h = program_header file i in
+      cond_both (is_segment h) (last_page h + 1) 0 (λ x. x ≤ 2 ^ 26 - 16)
+      (λ segment. let placed = IsPlaced-from_none file i (header_refusals-each file (e_phnum file) i below none) segment in let limit = placed.below in omega arith)
+      (λ other. omega arith))

@@ -12,6 +12,7 @@ const ET_EXEC: u16 = 2;
 const EM_RISCV: u16 = 243;
 
 /// A file whose file header is one that the loader takes, with its table of program headers.
+#[derive(Drop)]
 pub struct ElfFile<'a> {
     pub bytes: &'a [u8],
     pub table: usize,

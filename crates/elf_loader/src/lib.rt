@@ -1,8 +1,15 @@
 //! Executable files of ELF-64 for RISC-V, as runs of pages of memory.
 #![tactic(auto)]
 
+ghost use Rattle.std.specs.Prelude.{◌≡◌, IfOk};
+ghost use Rattle.elf_loader.specs.Image.{Tells, loaded};
+
 use bas_items::Items;
+use std::alloc::{AllocError, Global};
 use thiserror::Error;
+
+use crate::file::ElfFile;
+use crate::header::PAGE_SIZE;
 
 mod check;
 mod file;
@@ -83,4 +90,40 @@ pub enum LoadError {
     /// Memory ran out.
     #[error("out of memory")]
     Memory,
+}
+
+impl From<ElfError> for LoadError {
+    ghost use Rattle.elf_loader.specs.declared.LoadError.TheVariants.{Refused};
+
+    ghost from_gives = { λ error e. e ≡ Refused error };
+
+    fn from(error: ElfError) -> LoadError {
+        LoadError::Refused(error)
+    }
+}
+
+impl From<AllocError> for LoadError {
+    ghost use Rattle.elf_loader.specs.declared.LoadError.TheVariants.{Memory};
+
+    ghost from_gives = { λ _ e. e ≡ Memory };
+
+    fn from(_e: AllocError) -> LoadError {
+        LoadError::Memory
+    }
+}
+
+/// The program of an ELF file, or the first refusal that fits.
+pub fn load(alloc: Global, bytes: &[u8]) -> Result<Program, LoadError>
+    ensures exact { Tells result (loaded bytes.now) }
+{
+    let file = ElfFile::open(bytes)?;
+    file.check_headers()?;
+    file.check_program()?;
+    let end = file.end_page();
+    let runs = file.runs(alloc, end)?;
+    Ok(Program {
+        entry: file.entry(),
+        runs,
+        end: PAGE_SIZE * end,
+    })
 }
