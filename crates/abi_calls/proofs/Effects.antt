@@ -1,4 +1,4 @@
--- What a call can do to the objects: one of eleven things. A property that each of them has is one that each answer has.
+-- What a call can do to the objects: one of ten things. A property that each of them has is one that each answer has.
 use Rattle.std.specs.Prelude.{◌≡◌, ℕ, ◌+◌, ◌==◌, Bool, true, false, cond, not, ◌&&◌, if◌then◌else◌, nat_lt, nat_le, is_some, length, List, [], ◌∷◌, ◌++◌}
 use Rattle.std.specs.FinMap.{empty, len}
 use Rattle.std.specs.declared.option.Option.{Option}

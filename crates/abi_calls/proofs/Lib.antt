@@ -1,4 +1,5 @@
 pub mod NumberMaps
+pub mod Counts
 pub mod ThreadLists
 pub mod Facts
 pub mod TurnFacts
@@ -6,3 +7,4 @@ pub mod Effects
 pub mod PositionsKept
 pub mod SoundChanges
 pub mod Sounds
+pub mod Worked

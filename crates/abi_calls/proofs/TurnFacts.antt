@@ -23,11 +23,21 @@ use Rattle.abi_calls.proofs.Facts.{awoken_none, RunsIn, Home, ready_thread}
 turned_awake : (o : Objects) → o.waiting ≡ [] → turned o ≡ turned_at o (pick_of o) (slice_get o.ready (pick_of o))
 turned_awake o none = ap (λ a. turned_at a (pick_of a) (slice_get a.ready (pick_of a))) (awoken_none o none)
 
--- With no ready thread a turn is stuck, and changes nothing.
-pub turned_empty : (o : Objects) → IsSound o → o.ready ≡ [] → turned o ≡ (Stuck, o)
-turned_empty o sound none =
-    turned_awake o sound.waiting ∙ ap (λ ready. turned_at o (pick_of o) (slice_get ready (pick_of o))) none
+-- Where no thread stands at the picked place, a turn is stuck and changes nothing.
+pub turned_stuck : (o : Objects) → IsSound o → slice_get o.ready (pick_of o) ≡ None → turned o ≡ (Stuck, o)
+turned_stuck o sound none =
+    turned_awake o sound.waiting ∙ ap (turned_at o (pick_of o)) none
     ∙ ap (λ waiting. if list_any (λ w. is_some w.deadline) waiting then (Idle, with_turn o) else (Stuck, o)) sound.waiting
+
+pub turned_empty : (o : Objects) → IsSound o → o.ready ≡ [] → turned o ≡ (Stuck, o)
+turned_empty o sound none = turned_stuck o sound (ap (λ ready. slice_get ready (pick_of o)) none)
+
+-- Else the thread that stands there runs in its process.
+pub turned_runs : (o : Objects) (t p : ℕ) (context : Context) (space : Space) → IsSound o → slice_get o.ready (pick_of o) ≡ Some t → RunsIn o t p context space →
+    turned o ≡ after_run (picked o (pick_of o)) t p (run_space o.settings.slice context space)
+turned_runs o t p context space sound at runs =
+    turned_awake o sound.waiting ∙ ap (turned_at o (pick_of o)) at
+    ∙ ap (run_thread (picked o (pick_of o)) t) runs.thread ∙ ap (run_in (picked o (pick_of o)) t p context) runs.process
 
 -- The thread that a turn picks, its process, and what running it leads to.
 pub record Picks (o : Objects) : Type 0 where
@@ -39,30 +49,26 @@ pub record Picks (o : Objects) : Type 0 where
   pub runs : RunsIn o thread process context space
   pub turned : turned o ≡ after_run (picked o (pick_of o)) thread process (run_space o.settings.slice context space)
 
-turned_home : (o : Objects) (t : ℕ) → o.waiting ≡ [] → slice_get o.ready (pick_of o) ≡ Some t → Home o t → Picks o
-turned_home o t none at home =
-    let place = pick_of o in
-    let runs = home.runs in
-    record {
-      thread = t;
-      at = at;
-      process = home.process;
-      context = home.context;
-      space = home.space;
-      runs = runs;
-      turned = turned_awake o none ∙ ap (turned_at o place) at ∙ ap (run_thread (picked o place) t) runs.thread
-          ∙ ap (run_in (picked o place) t home.process home.context) runs.process;
-    }
+turned_home : (o : Objects) (t : ℕ) → IsSound o → slice_get o.ready (pick_of o) ≡ Some t → Home o t → Picks o
+turned_home o t sound at home = record {
+  thread = t;
+  at = at;
+  process = home.process;
+  context = home.context;
+  space = home.space;
+  runs = home.runs;
+  turned = turned_runs o t home.process home.context home.space sound at home.runs;
+}
 
 not_empty : (xs : List ℕ) → xs ≢ [] → 0 < length xs
 not_empty [] some = absurd (some refl)
 not_empty (x ∷ xs) some = omega arith
 
--- Else it runs the thread that it picks.
+-- With ready threads, one is picked and runs.
 pub turned_picks : (o : Objects) → IsSound o → o.ready ≢ [] → Picks o
 turned_picks o sound some =
     let at : slice_get o.ready (pick_of o) ≡ Some (get_or o.ready (pick_of o) 0) = slice_get-get_or o.ready (pick_of o) 0 (mod-lt _ (not_empty o.ready some)) in
-    turned_home o _ sound.waiting at (ready_thread o (pick_of o) _ sound at)
+    turned_home o _ sound at (ready_thread o (pick_of o) _ sound at)
 
 -- A turn is one of the two.
 pub turned_cases : (o : Objects) → IsSound o → ((o.ready ≡ []) × (turned o ≡ (Stuck, o))) ⊎ Picks o
@@ -71,16 +77,23 @@ turned_cases o sound = elim o.ready as (λ xs. o.ready ≡ xs → ((o.ready ≡ 
   | t ∷ ts ↦ λ is. inr (turned_picks o sound (λ none. absurd (let e : t ∷ ts ≡ [] = sym is ∙ none in cc)))
 ] refl
 
--- How a run that was picked ends.
+-- How a run that was picked ends: by a trap, its thread is current, and the upcall tells of it.
+pub record Traps (o : Objects) (t p : ℕ) (registers : Context) (up : Upcall) (o' : Objects) : Type 0 where
+  pub live : o'.live ≡ o.live
+  pub current : o'.current ≡ Some t
+  pub thread : up.thread ≡ t
+  pub process : up.process ≡ p
+  pub context : up.context ≡ registers
+
 abbrev pub EndsAs : Objects → ℕ → ℕ → Context → Turned → Objects → Type 0
 EndsAs o t p context Ran o' = o'.current ≡ o.current
 EndsAs o t p context Idle o' = ⊥
 EndsAs o t p context Stuck o' = ⊥
-EndsAs o t p context (Exception up) o' = (o'.live ≡ o.live) × (o'.current ≡ Some t) × (up.thread ≡ t) × (up.process ≡ p) × (up.context ≡ context)
+EndsAs o t p context (Exception up) o' = Traps o t p context up o'
 
 trapped_ends : (o : Objects) (t p : ℕ) (context : Context) (trap : Option (ℕ × ℕ)) → EndsAs o t p context (trapped o t p context trap).0 (trapped o t p context trap).1
 trapped_ends o t p context None = refl
-trapped_ends o t p context (Some trap) = (refl, refl, refl, refl, refl)
+trapped_ends o t p context (Some trap) = record { live = refl; current = refl; thread = refl; process = refl; context = refl }
 
 picked_ends : (o : Objects) (picks : Picks o) (a : Turned) (o' : Objects) → turned o ≡ (a, o') →
     EndsAs (with_run_of (picked o (pick_of o)) picks.thread picks.process (run_space o.settings.slice picks.context picks.space)) picks.thread picks.process (run_space o.settings.slice picks.context picks.space).context a o'
@@ -122,15 +135,15 @@ ran_runs o t p run apart =
 pub home_apart : (o : Objects) (t p : ℕ) (context : Context) (space : Space) → RunsIn o t p context space → t ≢ p
 home_apart o t p context space runs same = absurd (let e : None ≡ Some space = ap running (sym runs.thread) ∙ ap (λ q. running (object_at o q)) same ∙ runs.process in cc)
 
-trapped_home : (o : Objects) (t p : ℕ) (run : Run) → t ≢ p → (up : Upcall) (o' : Objects) → EndsAs (with_run_of o t p run) t p run.context (Exception up) o' → Trapped up o'
+trapped_home : (o : Objects) (t p : ℕ) (run : Run) → t ≢ p → (up : Upcall) (o' : Objects) → Traps (with_run_of o t p run) t p run.context up o' → Trapped up o'
 trapped_home o t p run apart up o' ends =
     let after = with_run_of o t p run in
     let runs = ran_runs o t p run apart in
     let named : object_at o' up.thread ≡ Some (Thread up.process up.context) =
-    ap (λ live. get live up.thread) ends.0 ∙ ap (object_at after) ends.2 ∙ runs.thread ∙ (λ i. Some (Thread (sym ends.3 i) (sym ends.4 i))) in
+    ap (λ live. get live up.thread) ends.live ∙ ap (object_at after) ends.thread ∙ runs.thread ∙ (λ i. Some (Thread (sym ends.process i) (sym ends.context i))) in
     let home : running (object_at o' up.process) ≡ Some run.space =
-    ap (λ live. running (get live up.process)) ends.0 ∙ ap (λ q. running (object_at after q)) ends.3 ∙ runs.process in
-    record { current = ends.1 ∙ ap Some (sym ends.2); space = run.space; runs = record { thread = named; process = home } }
+    ap (λ live. running (get live up.process)) ends.live ∙ ap (λ q. running (object_at after q)) ends.process ∙ runs.process in
+    record { current = ends.current ∙ ap Some (sym ends.thread); space = run.space; runs = record { thread = named; process = home } }
 
 pub exception_is : (o : Objects) (up : Upcall) (o' : Objects) → IsSound o → turned o ≡ (Exception up, o') → Trapped up o'
 exception_is o up o' sound is = elim (turned_cases o sound) [

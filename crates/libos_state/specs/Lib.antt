@@ -5,3 +5,4 @@ pub mod Entered
 pub mod Meaning
 pub mod Fits
 pub mod Laws
+pub mod Kept

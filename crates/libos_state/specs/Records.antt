@@ -1,5 +1,5 @@
 -- The records of the library OS, and what its machine is: the host's world through these records.
-use Rattle.std.specs.Prelude.{ℕ, ◌==◌, List, [], map, find, filter_map}
+use Rattle.std.specs.Prelude.{ℕ, ◌==◌, List, [], map, find, filter_map, replicate}
 use Rattle.std.specs.Ordering.{nat_cmp}
 use Rattle.std.specs.FinMap.{FinMap, get, empty, from_entries}
 use Rattle.std.specs.Option.{option_map, unwrap_or}
@@ -73,7 +73,7 @@ abbrev pub process_seen : Live → ProcessNote → mono.Process
 process_seen live n = process_if n.code (memory_of_object (get {R = nat_cmp} live n.handle)) n.descriptors
 
 abbrev pub no_context : Context
-no_context = record { pc = 0; x = [] }
+no_context = record { pc = 0; x = replicate 31 0 }
 
 -- The registers of a thread's object.
 abbrev pub context_of : Option Object → Context
