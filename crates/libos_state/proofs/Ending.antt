@@ -1,5 +1,5 @@
 -- The stages of a process that ends: its handles are closed, and it exits.
-use Rattle.std.specs.Prelude.{◌≡◌, ◌≢◌, ℕ, ◌==◌, not, true, false, List, [], ◌∷◌, filter, drop, slice_index, is_some}
+use Rattle.std.specs.Prelude.{◌≡◌, ◌≢◌, ℕ, ◌%◌, ◌==◌, not, true, false, List, [], ◌∷◌, filter, drop, slice_index, is_some}
 use Rattle.std.specs.Ordering.{nat_cmp}
 use Rattle.std.specs.FinMap.{get, empty}
 use Rattle.std.specs.declared.option.Option.{Option}
@@ -134,7 +134,7 @@ module _ (os : LibOs) (c : Cont) (w : World) (fits : FitsEnding os w.objects c) 
   exiting = (upcall_in c.event).process
 
   abbrev exited_objects : Objects
-  exited_objects = with_object (without_threads w.objects exiting) exiting (Process empty (Some (number c 0)))
+  exited_objects = with_object (without_threads w.objects exiting) exiting (Process empty (Some (number c 0 % 256)))
 
   exiting_is : exiting ≡ fits.upcall.process
   exiting_is = ap (λ e. (upcall_in e).process) fits.event
@@ -165,7 +165,7 @@ module _ (os : LibOs) (c : Cont) (w : World) (fits : FitsEnding os w.objects c) 
 pub keeps_exit_process : (os : LibOs) (c : Cont) (w w' : World) (r : Reply) → FitsEnding os w.objects c → IsSound w.objects → Abi w (asked os c ExitProcess) r w' → Holds os c ExitProcess w r w'
 keeps_exit_process os c w w' r fits sound abi =
     let after : World = with_objects w (exited_objects os c w fits) in
-    let row = ap (process_exited w (upcall_in c.event).process (number c 0)) (runs_still os c w fits).runs in
+    let row = ap (process_exited w (upcall_in c.event).process (number c 0 % 256)) (runs_still os c w fits).runs in
     holds_by os c ExitProcess w w' r (Done, after) abi row (record {
       fits = fits_up (ends os) after.objects (Some fits.code) fits.up (exit_code_is os fits.process (Some fits.code) fits.processes fits.first fits.ended) (exited_over os c w fits);
       means = ap (meant_idle (ends os) after) fits.up ∙ ap Runs (exited_base os c w fits);

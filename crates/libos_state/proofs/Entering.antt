@@ -1,5 +1,5 @@
 -- The library OS begins to serve a trap: it stands for the machine that has served it.
-use Rattle.std.specs.Prelude.{◌≡◌, ◌≢◌, ℕ, ◌%◌, ◌==◌, true, false, cond, [], ◌∷◌, map, bit_and, is_some}
+use Rattle.std.specs.Prelude.{◌≡◌, ◌≢◌, ℕ, ◌%◌, ◌==◌, Bool, true, false, cond, if◌then◌else◌, [], ◌∷◌, map, bit_and, is_some}
 use Rattle.std.specs.Option.{option_map}
 use Rattle.std.specs.FinMap.{insert, empty}
 use Rattle.std.specs.declared.option.Option.{Option}
@@ -36,6 +36,11 @@ use Rattle.libos_state.proofs.Turning.{Traps, turn_traps}
 pub record StandsFor (os : LibOs) (w : World) (m : Mono) : Type 0 where
   pub fits : Fits os w.objects
   pub means : meaning os w ≡ Runs m
+
+-- The trap of a write.
+pub record IsWrite (u : Upcall) : Type 0 where
+  pub call : u.cause ≡ 8
+  pub number : register u.context 17 ≡ WRITE
 
 module _ (os : LibOs) (w : World) (u : Upcall) (fits : FitsServed os w.objects (entered_with u)) where
   abbrev m : Mono
@@ -94,7 +99,7 @@ module _ (os : LibOs) (w : World) (u : Upcall) (fits : FitsServed os w.objects (
       let seen = process_seen w.objects.live fits.process in
       let ps = processes_over (ending code).processes (note code) code w.objects.live (notes_are code) refl
       ∙ sym ((λ i. insert (processes_one os.processes fits.process w.objects.live fits.records.processes i) (caller_process os w.objects (entered_with u) fits i) (exited code))
-          ∙ set_twice empty pid seen (exited code)) in
+      ∙ set_twice empty pid seen (exited code)) in
       let rs = ap (tids_of []) fits.ready in
       λ i. record m { processes = ps i; threads = empty; descriptions = empty; ready = rs i }
 
@@ -115,66 +120,73 @@ module _ (os : LibOs) (w : World) (u : Upcall) (fits : FitsServed os w.objects (
   abbrev reading : Cont
   reading = record (entered_with u) { stage = ReadMemory }
 
-  write_fits : (d : Description) → u.cause ≡ 8 → register u.context 17 ≡ WRITE → description_behind os u.process fd ≡ Some d → bit_and d.access 2 ≡ 2 → register u.context 12 ≢ 0 → FitsWrite (goes_on os reading) w.objects reading
-  write_fits d call writes behind allowed some =
+  write_fits : (d : Description) → IsWrite u → description_behind os u.process fd ≡ Some d → bit_and d.access 2 ≡ 2 → register u.context 12 ≢ 0 → FitsWrite (goes_on os reading) w.objects reading
+  write_fits d is behind allowed some =
       let trap : fits.upcall ≡ u = sym (ap upcall_in fits.event) in
       record {
         served = served_on os (Some reading) w.objects (entered_with u) reading refl fits;
-        call = ap (λ (v : Upcall). v.cause) trap ∙ call;
-        write = ap (λ (v : Upcall). register v.context 17) trap ∙ writes;
+        call = ap (λ (v : Upcall). v.cause) trap ∙ is.call;
+        write = ap (λ (v : Upcall). register v.context 17) trap ∙ is.number;
         some = λ none. some (sym (ap (λ (v : Upcall). register v.context 12) trap) ∙ none);
         description = d;
         behind = ap (λ (v : Upcall). description_behind os v.process (register v.context 10)) trap ∙ behind;
         writable = allowed;
       }
 
-  write_stands : (x : Option Description) → u.cause ≡ 8 → register u.context 17 ≡ WRITE → description_behind os u.process fd ≡ x →
-      StandsFor (write_entered os u x) w (write_to m who (writable (option_map description_seen x)))
-  write_stands None call writes behind = result_stands (error EBADF)
-  write_stands (Some d) call writes behind =
+  abbrev written_from : Description → Mono
+  written_from d = write_from m who (stream_of_kind d.kind) (register u.context 11) (moved (register u.context 12))
+
+  -- of some bytes or of none
+  some_stand : (d : Description) → IsWrite u → description_behind os u.process fd ≡ Some d → bit_and d.access 2 ≡ 2 → (none : Bool) → (register u.context 12 == 0) ≡ none →
+      StandsFor (cond none (result_of os u 0) (goes_on os reading)) w (cond none (finished m who 0) (written_from d))
+  some_stand d is behind allowed true none = result_stands 0
+  some_stand d is behind allowed false some =
       let there : description_of m who.process fd ≡ Some (description_seen d) = described ∙ ap (option_map description_seen) behind in
-      let from : Mono = write_from m who (stream_of_kind d.kind) (register u.context 11) (moved (register u.context 12)) in
-      let some_os : LibOs = goes_on os reading in
-      elim (bit_and d.access 2 == 2) as (λ b. (bit_and d.access 2 == 2) ≡ b →
-          StandsFor (cond b (cond (register u.context 12 == 0) (result_of os u 0) some_os) (result_of os u (error EBADF))) w (write_to m who (cond b (Some (stream_of_kind d.kind)) None))) [
-        | true ↦ λ allowed. elim (register u.context 12 == 0) as (λ b. (register u.context 12 == 0) ≡ b →
-              StandsFor (cond b (result_of os u 0) some_os) w (cond b (finished m who 0) from)) [
-            | true ↦ λ none. result_stands 0
-            | false ↦ λ some. record {
-                fits = write_fits d call writes behind (eqb-true (bit_and d.access 2) 2 allowed) (eqb-false (register u.context 12) 0 some);
-                means = ap Runs (served_write m who u.cause (description_seen d) (memory_at m who.process) call writes there (eqb-true (bit_and d.access 2) 2 allowed) (eqb-false (register u.context 12) 0 some) refl);
-              }
-          ] refl
-        | false ↦ λ refused. result_stands (error EBADF)
-      ] refl
+      let more = eqb-false (register u.context 12) 0 some in
+      record {
+        fits = write_fits d is behind allowed more;
+        means = ap Runs (served_write m who u.cause (description_seen d) (memory_at m who.process) is.call is.number there allowed more refl);
+      }
+
+  -- to a descriptor that is open for writing, or not
+  open_stands : (d : Description) → IsWrite u → description_behind os u.process fd ≡ Some d → (allowed : Bool) → (bit_and d.access 2 == 2) ≡ allowed →
+      StandsFor (cond allowed (cond (register u.context 12 == 0) (result_of os u 0) (goes_on os reading)) (result_of os u (error EBADF))) w (write_to m who (cond allowed (Some (stream_of_kind d.kind)) None))
+  open_stands d is behind true allowed = some_stand d is behind (eqb-true (bit_and d.access 2) 2 allowed) (register u.context 12 == 0) refl
+  open_stands d is behind false refused = result_stands (error EBADF)
+
+  behind_stands : (x : Option Description) → IsWrite u → description_behind os u.process fd ≡ x → StandsFor (write_entered os u x) w (write_to m who (writable (option_map description_seen x)))
+  behind_stands None is behind = result_stands (error EBADF)
+  behind_stands (Some d) is behind = open_stands d is behind (bit_and d.access 2 == 2) refl
+
+  write_stands : IsWrite u → StandsFor (write_entered os u (description_behind os u.process fd)) w (write m who)
+  write_stands is = subst (λ x. StandsFor (write_entered os u (description_behind os u.process fd)) w (write_to m who (writable x))) (sym described) (behind_stands (description_behind os u.process fd) is refl)
 
   -- a system call, by its number
   abbrev number : ℕ
   number = register u.context 17
 
-  write_is : StandsFor (write_entered os u (description_behind os u.process fd)) w (write_to m who (writable (option_map description_seen (description_behind os u.process fd)))) → StandsFor (write_entered os u (description_behind os u.process fd)) w (write m who)
-  write_is stands = subst (λ x. StandsFor (write_entered os u (description_behind os u.process fd)) w (write_to m who (writable x))) (sym described) stands
+  other_stands : (exits : Bool) → StandsFor (cond exits (ends_process os u (register u.context 10 % 256)) (result_of os u (error ENOSYS))) w (cond exits (exit m who) (finished m who (error ENOSYS)))
+  other_stands true = process_stands (register u.context 10 % 256)
+  other_stands false = result_stands (error ENOSYS)
 
-  call_stands : u.cause ≡ 8 → StandsFor (call_entered os u number) w (system_call m who number)
-  call_stands call =
-      let other_os : LibOs = cond (number == EXIT) (ends_process os u (register u.context 10 % 256)) (result_of os u (error ENOSYS)) in
-      let other : Mono = cond (number == EXIT) (exit m who) (finished m who (error ENOSYS)) in
-      elim (number == WRITE) as (λ b. (number == WRITE) ≡ b →
-          StandsFor (cond b (write_entered os u (description_behind os u.process fd)) other_os) w (cond b (write m who) other)) [
-        | true ↦ λ is. write_is (write_stands (description_behind os u.process fd) call (eqb-true number WRITE is) refl)
-        | false ↦ λ not_write. elim (number == EXIT) as (λ b.
-              StandsFor (cond b (ends_process os u (register u.context 10 % 256)) (result_of os u (error ENOSYS))) w (cond b (exit m who) (finished m who (error ENOSYS)))) [
-            | true ↦ process_stands (register u.context 10 % 256)
-            | false ↦ result_stands (error ENOSYS)
-          ]
-      ] refl
+  abbrev other_entered : LibOs
+  other_entered = if number == EXIT then ends_process os u (register u.context 10 % 256) else result_of os u (error ENOSYS)
+
+  abbrev other_call : Mono
+  other_call = if number == EXIT then exit m who else finished m who (error ENOSYS)
+
+  call_stands : u.cause ≡ 8 → (writes : Bool) → (number == WRITE) ≡ writes →
+      StandsFor (cond writes (write_entered os u (description_behind os u.process fd)) other_entered) w (cond writes (write m who) other_call)
+  call_stands call true is = write_stands (record { call = call; number = eqb-true number WRITE is })
+  call_stands call false other = other_stands (number == EXIT)
+
+  cause_stands : (calls : Bool) → (u.cause == 8) ≡ calls →
+      StandsFor (cond calls (call_entered os u number) (ends_process os u (fault_code u.cause))) w (cond calls (system_call m who number) (ended m who.process (fault_code u.cause)))
+  cause_stands true is = call_stands (eqb-true u.cause 8 is) (number == WRITE) refl
+  cause_stands false fault = process_stands (fault_code u.cause)
 
   pub trap_stands : StandsFor (entered os u) w (served m who u.cause)
-  trap_stands = elim (u.cause == 8) as (λ b. (u.cause == 8) ≡ b →
-      StandsFor (cond b (call_entered os u number) (ends_process os u (fault_code u.cause))) w (cond b (system_call m who number) (ended m who.process (fault_code u.cause)))) [
-    | true ↦ λ is. call_stands (eqb-true u.cause 8 is)
-    | false ↦ λ fault. process_stands (fault_code u.cause)
-  ] refl
+  trap_stands = cause_stands (u.cause == 8) refl
 
 -- A trap makes the library OS stand for the machine's next turn.
 pub enters_turn : (os : LibOs) (u : Upcall) → EntersTurn os u (entered os u)

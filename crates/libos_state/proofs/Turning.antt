@@ -151,7 +151,7 @@ module _ (os : LibOs) (w : World) (fits : FitsIdle os w.objects) (sound : IsSoun
       let set : base os (with_objects w after) ≡ with_thread now thread.tid (record { process = process.pid; context = run.context }) =
       λ i. record m { processes = ps i; threads = ts i; ready = rs i } in
       set ∙ sym (ap (λ x. with_thread (with_memory_in m process.pid run.space x) thread.tid (record { process = process.pid; context = run.context }))
-          (process_there os w process fits.records.processes fits.records.alive))
+      (process_there os w process fits.records.processes fits.records.alive))
 
   -- without a trap the thread is ready again
   abbrev again : Objects
