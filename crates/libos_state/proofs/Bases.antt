@@ -1,5 +1,5 @@
 -- The machine that the records name: what its look-ups find, and how it changes with the objects.
-use Rattle.std.specs.Prelude.{◌≡◌, ◌≢◌, ℕ, ◌==◌, Bool, true, false, cond, List, [], ◌∷◌, ◌++◌, map, find}
+use Rattle.std.specs.Prelude.{◌≡◌, ℕ, ◌==◌, Bool, true, false, cond, List, [], ◌∷◌, map, find}
 use Rattle.std.specs.List.{cons_option}
 use Rattle.std.specs.Ordering.{nat_cmp}
 use Rattle.std.specs.FinMap.{FinMap, get, insert, empty, from_entries}
@@ -11,13 +11,12 @@ use Rattle.std.proofs.lemmas.Bool.{cond-true}
 use Rattle.rv_core.specs.declared.context.Context.{Context}
 use Rattle.guest_space.specs.Space.{Space}
 use Rattle.abi_calls.specs.declared.object.Object.TheVariants.{Thread}
-use Rattle.abi_calls.specs.Objects.{Object, Objects, Live}
+use Rattle.abi_calls.specs.Objects.{Live}
 use Rattle.abi_calls.specs.World.{World, with_objects}
 use Rattle.abi_calls.proofs.NumberMaps.{get_none, get_set, get_same, set_twice}
 use Rattle.mono_model.specs.Machine as mono
 use Rattle.mono_model.specs.Machine.{Mono, exited, process_at, thread_at, with_thread}
 use Rattle.mono_model.specs.Calls.{description_of, described_by, described_in, memory_at, memory_in}
-use Rattle.libos_state.specs.declared.notes.Description.{Description}
 use Rattle.libos_state.specs.declared.notes.DescriptorNote.{DescriptorNote}
 use Rattle.libos_state.specs.declared.notes.ProcessNote.{ProcessNote}
 use Rattle.libos_state.specs.declared.notes.ThreadNote.{ThreadNote}
@@ -55,6 +54,14 @@ pub processes_kept : (notes : List ProcessNote) (n : ProcessNote) (live new : Li
     memory_of_object (get {R = nat_cmp} new n.handle) ≡ memory_of_object (get {R = nat_cmp} live n.handle) → processes_of notes new ≡ processes_of notes live
 processes_kept notes n live new is same =
     processes_one notes n new is ∙ ap (λ memory. only n.pid (process_if n.code memory n.descriptors)) same ∙ sym (processes_one notes n live is)
+
+-- a process with another memory
+pub processes_set : (notes : List ProcessNote) (n : ProcessNote) (space : Space) (live new : Live) → notes ≡ n ∷ [] → n.code ≡ None →
+    memory_of_object (get {R = nat_cmp} new n.handle) ≡ space → processes_of notes new ≡ insert (processes_of notes live) n.pid (process_if None space n.descriptors)
+processes_set notes n space live new is alive at =
+    let process : mono.Process = process_if None space n.descriptors in
+    processes_one notes n new is ∙ (λ i. only n.pid (process_if (alive i) (at i) n.descriptors))
+    ∙ sym (ap (λ m. insert m n.pid process) (processes_one notes n live is) ∙ set_twice empty n.pid (process_seen live n) process)
 
 -- a thread with other registers
 pub threads_set : (notes : List ThreadNote) (n : ThreadNote) (p : ℕ) (context : Context) (live new : Live) → notes ≡ n ∷ [] →

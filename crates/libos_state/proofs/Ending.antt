@@ -1,35 +1,34 @@
 -- The stages of a process that ends: its handles are closed, and it exits.
-use Rattle.std.specs.Prelude.{◌≡◌, ◌≢◌, ℕ, ◌==◌, ◌||◌, not, true, false, cond, List, [], ◌∷◌, filter, drop, slice_index, is_some}
+use Rattle.std.specs.Prelude.{◌≡◌, ◌≢◌, ℕ, ◌%◌, ◌==◌, not, true, false, List, [], ◌∷◌, filter, drop, slice_index, is_some}
 use Rattle.std.specs.Ordering.{nat_cmp}
 use Rattle.std.specs.FinMap.{get, empty}
 use Rattle.std.specs.declared.option.Option.{Option}
 use Rattle.std.specs.declared.option.Option.TheVariants.{None, Some}
-use Rattle.std.proofs.Common.{refl, sym, ap, subst, ◌∙◌, eq-eqb, ne_eqb}
+use Rattle.std.proofs.Common.{refl, sym, ap, ◌∙◌, eq-eqb, ne_eqb}
 use Rattle.std.proofs.lemmas.Bool.{cond-true, cond-false, or_parts}
-use Rattle.rv_core.specs.declared.context.Context.{Context}
 use Rattle.abi_calls.specs.declared.object.Object.TheVariants.{Process, Thread, Event, Stream}
 use Rattle.abi_calls.specs.declared.reply.Reply.{Reply}
 use Rattle.abi_calls.specs.declared.reply.Reply.TheVariants.{Done}
 use Rattle.abi_calls.specs.Objects.{Object, Objects, Live, object_at, running, contains, kept, is_thread_of, with_object, without_handles}
-use Rattle.abi_calls.specs.World.{World, Answer, with_objects}
+use Rattle.abi_calls.specs.World.{World, with_objects}
 use Rattle.abi_calls.specs.Processes.{ended, closed, process_exited, without_threads}
 use Rattle.abi_calls.specs.Abi.{Abi}
 use Rattle.abi_calls.specs.Sound.{IsSound}
 use Rattle.abi_calls.proofs.SoundChanges.{without_at}
-use Rattle.mono_model.specs.Starting.{Started, Runs}
+use Rattle.mono_model.specs.Starting.{Runs}
 use Rattle.libos_state.specs.declared.cont.Cont.{Cont}
 use Rattle.libos_state.specs.declared.cont.Stage.TheVariants.{CloseHandles, ExitProcess}
 use Rattle.libos_state.specs.declared.state.LibOs.{LibOs}
 use Rattle.libos_state.specs.Records.{base}
 use Rattle.libos_state.specs.Pending.{asked, upcall_in, handle, number}
-use Rattle.libos_state.specs.Answered.{bare, ends, closes_on}
+use Rattle.libos_state.specs.Answered.{ends, closes_on}
 use Rattle.libos_state.specs.Meaning.{meaning, meant_idle}
 use Rattle.libos_state.specs.Fits.{Fits, FitsEnding, FitsClosing, FitsOver, Closable, is_closable}
 use Rattle.libos_state.proofs.Holds.{Holds}
 use Rattle.libos_state.proofs.Rows.{holds_by}
 use Rattle.libos_state.proofs.Bases.{base_over}
 use Rattle.libos_state.proofs.Served.{Running, running_of, apart, closable_no_thread, closable_no_process}
-use Rattle.libos_state.proofs.Resuming.{exit_code_is, fits_up}
+use Rattle.libos_state.proofs.Idle.{exit_code_is, fits_up}
 
 -- What the end of a process keeps of the objects.
 pub record KeepsEnding (o o' : Objects) (process thread : ℕ) : Type 0 where
@@ -135,7 +134,7 @@ module _ (os : LibOs) (c : Cont) (w : World) (fits : FitsEnding os w.objects c) 
   exiting = (upcall_in c.event).process
 
   abbrev exited_objects : Objects
-  exited_objects = with_object (without_threads w.objects exiting) exiting (Process empty (Some (number c 0)))
+  exited_objects = with_object (without_threads w.objects exiting) exiting (Process empty (Some (number c 0 % 256)))
 
   exiting_is : exiting ≡ fits.upcall.process
   exiting_is = ap (λ e. (upcall_in e).process) fits.event
@@ -166,7 +165,7 @@ module _ (os : LibOs) (c : Cont) (w : World) (fits : FitsEnding os w.objects c) 
 pub keeps_exit_process : (os : LibOs) (c : Cont) (w w' : World) (r : Reply) → FitsEnding os w.objects c → IsSound w.objects → Abi w (asked os c ExitProcess) r w' → Holds os c ExitProcess w r w'
 keeps_exit_process os c w w' r fits sound abi =
     let after : World = with_objects w (exited_objects os c w fits) in
-    let row = ap (process_exited w (upcall_in c.event).process (number c 0)) (runs_still os c w fits).runs in
+    let row = ap (process_exited w (upcall_in c.event).process (number c 0 % 256)) (runs_still os c w fits).runs in
     holds_by os c ExitProcess w w' r (Done, after) abi row (record {
       fits = fits_up (ends os) after.objects (Some fits.code) fits.up (exit_code_is os fits.process (Some fits.code) fits.processes fits.first fits.ended) (exited_over os c w fits);
       means = ap (meant_idle (ends os) after) fits.up ∙ ap Runs (exited_base os c w fits);

@@ -8,6 +8,7 @@ pub mod Making
 pub mod Beginning
 pub mod Bases
 pub mod Rows
+pub mod Idle
 pub mod Served
 pub mod Resuming
 pub mod Writing
@@ -15,3 +16,7 @@ pub mod Ending
 pub mod Pages
 pub mod Loading
 pub mod Stacking
+pub mod Turning
+pub mod Entering
+pub mod Taken
+pub mod Answering

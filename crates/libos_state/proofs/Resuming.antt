@@ -1,36 +1,33 @@
 -- The stages that give a thread its registers and make it ready.
-use Rattle.std.specs.Prelude.{◌≡◌, ◌≢◌, ℕ, ◌==◌, true, cond, List, [], ◌∷◌, ◌++◌, is_some}
+use Rattle.std.specs.Prelude.{◌≡◌, ◌≢◌, ℕ, ◌==◌, true, [], ◌∷◌, ◌++◌, is_some}
 use Rattle.std.specs.Ordering.{nat_cmp}
 use Rattle.std.specs.FinMap.{get, insert}
 use Rattle.std.specs.declared.option.Option.{Option}
 use Rattle.std.specs.declared.option.Option.TheVariants.{None, Some}
-use Rattle.std.proofs.Common.{refl, sym, ap, subst, ◌∙◌, eq-eqb}
+use Rattle.std.proofs.Common.{sym, ap, ◌∙◌, eq-eqb}
 use Rattle.std.proofs.lemmas.Bool.{cond-true}
 use Rattle.rv_core.specs.declared.context.Context.{Context}
 use Rattle.abi_calls.specs.declared.object.Object.TheVariants.{Thread}
 use Rattle.abi_calls.specs.declared.reply.Reply.{Reply}
 use Rattle.abi_calls.specs.declared.reply.Reply.TheVariants.{Done, Busy}
-use Rattle.abi_calls.specs.Objects.{Object, Objects, Live, object_at, running, with_object, without, kept}
-use Rattle.abi_calls.specs.World.{World, Answer, with_objects}
+use Rattle.abi_calls.specs.Objects.{Objects, Live, object_at, running, with_object, without, kept}
+use Rattle.abi_calls.specs.World.{World, with_objects}
 use Rattle.abi_calls.specs.Threads.{is_resting, started, thread_resumed, thread_set}
 use Rattle.abi_calls.specs.Abi.{Abi}
 use Rattle.abi_calls.specs.Sound.{IsSound}
 use Rattle.abi_calls.proofs.NumberMaps.{get_same, get_other}
 use Rattle.mono_model.specs.Machine.{Mono, with_thread, made_ready}
-use Rattle.mono_model.specs.Starting.{Started, Runs}
+use Rattle.mono_model.specs.Starting.{Runs}
 use Rattle.libos_state.specs.declared.cont.Cont.{Cont}
 use Rattle.libos_state.specs.declared.cont.Stage.TheVariants.{SetContext, Resume}
-use Rattle.libos_state.specs.declared.notes.ProcessNote.{ProcessNote}
-use Rattle.libos_state.specs.declared.notes.ThreadNote.{ThreadNote}
-use Rattle.libos_state.specs.declared.state.Boot.TheVariants as boot
 use Rattle.libos_state.specs.declared.state.LibOs.{LibOs}
 use Rattle.libos_state.specs.Records.{base, memory_of_object, tids_of}
 use Rattle.libos_state.specs.Pending.{asked, upcall_in}
 use Rattle.libos_state.specs.Answered.{bare, ends}
 use Rattle.libos_state.specs.Meaning.{caller_in, meant_idle}
-use Rattle.libos_state.specs.Fits.{FitsServed, FitsIdle, FitsBoot, FitsUp, FitsRecords, is_closable, exit_code, code_of}
-use Rattle.libos_state.specs.Records.{process_named}
+use Rattle.libos_state.specs.Fits.{FitsServed, FitsIdle}
 use Rattle.libos_state.proofs.Holds.{Holds}
+use Rattle.libos_state.proofs.Idle.{exit_code_is, fits_up}
 use Rattle.libos_state.proofs.Rows.{holds_by}
 use Rattle.libos_state.proofs.Bases.{base_set, tids_one}
 use Rattle.libos_state.proofs.Served.{records_over, records_on, trap_thread, trap_object, trap_rests, caller_thread, caller_process, process_apart, closable_apart}
@@ -92,15 +89,6 @@ keeps_set_context os c w w' r fits sound abi =
       fits = set_served os c w fits (Some (bare c Resume));
       means = ap (λ (m : Mono). Runs (made_ready m (caller_in os c).thread)) (set_base os c w fits);
     })
-
--- The exit code of the one process.
-pub exit_code_is : (os : LibOs) (p : ProcessNote) (code : Option ℕ) → os.processes ≡ p ∷ [] → p.pid ≡ 1 → p.code ≡ code → exit_code os ≡ code
-exit_code_is os p code processes first is =
-    ap (λ ps. code_of (process_named 1 ps)) processes ∙ ap code_of (cond-true (p.pid == 1) (Some p) None (eq-eqb p.pid 1 first)) ∙ is
-
--- A library OS that has come up fits where its process runs, or is over.
-pub fits_up : (os : LibOs) (o : Objects) (code : Option ℕ) → os.boot ≡ boot.Up → exit_code os ≡ code → FitsUp os o code → FitsBoot os o os.boot
-fits_up os o code up is fits = subst (FitsBoot os o) (sym up) (subst (FitsUp os o) (sym is) fits)
 
 -- The thread that rests becomes the one that is ready.
 kept_none : (t h : ℕ) (current : Option ℕ) → current ≡ Some h → t ≡ h → kept (λ k. k == t) current ≡ None

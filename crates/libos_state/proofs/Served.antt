@@ -1,5 +1,5 @@
 -- What the library OS that serves a trap knows, and how it stays so.
-use Rattle.std.specs.Prelude.{◌≡◌, ◌≢◌, ℕ, ◌==◌, ◌||◌, Bool, true, false, List, [], ◌∷◌, is_some}
+use Rattle.std.specs.Prelude.{◌≡◌, ◌≢◌, ℕ, ◌||◌, true, false, List, [], ◌∷◌, is_some}
 use Rattle.std.specs.Ordering.{nat_cmp}
 use Rattle.std.specs.FinMap.{get}
 use Rattle.std.specs.declared.option.Option.{Option}
@@ -8,21 +8,16 @@ use Rattle.std.proofs.Common.{refl, sym, ap, subst, ◌∙◌, eq-eqb}
 use Rattle.rv_core.specs.declared.context.Context.{Context}
 use Rattle.guest_space.specs.Space.{Space}
 use Rattle.abi_calls.specs.declared.object.Object.TheVariants.{Process, Thread, Event, Stream}
-use Rattle.abi_calls.specs.declared.threads.Upcall.{Upcall}
 use Rattle.abi_calls.specs.Objects.{Object, Objects, Live, object_at, running, contains, is_at}
 use Rattle.abi_calls.specs.Threads.{is_resting}
 use Rattle.libos_state.specs.declared.cont.Cont.{Cont}
-use Rattle.libos_state.specs.declared.cont.Event as event
 use Rattle.libos_state.specs.declared.notes.ProcessNote.{ProcessNote}
 use Rattle.libos_state.specs.declared.notes.ThreadNote.{ThreadNote}
-use Rattle.libos_state.specs.declared.notes.Description.{Description}
 use Rattle.libos_state.specs.declared.state.LibOs.{LibOs}
-use Rattle.libos_state.specs.Records.{memory_of_object}
 use Rattle.libos_state.specs.Pending.{upcall_in}
 use Rattle.libos_state.specs.Entered.{handles_of}
 use Rattle.libos_state.specs.Meaning.{caller_in, tid_of, pid_of}
 use Rattle.libos_state.specs.Fits.{FitsRecords, FitsServed, Closable, is_closable}
-use Rattle.mono_model.specs.Calls.{Caller}
 use Rattle.libos_state.proofs.Bases.{thread_found, process_found}
 
 -- A running process, a thread and what can be closed have different handles.

@@ -1,21 +1,18 @@
 -- The stages of a write: its bytes are read from the caller's memory, and go to the stream.
-use Rattle.std.specs.Prelude.{◌≡◌, ◌≢◌, ℕ, ◌≤◌, ◌==◌, nat_lt, cond, List, [], ◌∷◌, ◌++◌, length, min, bit_and, is_some, unwrap_or}
-use Rattle.std.specs.Ordering.{nat_cmp}
-use Rattle.std.specs.FinMap.{get, empty}
+use Rattle.std.specs.Prelude.{◌≡◌, ◌≢◌, ℕ, ◌≤◌, ◌==◌, nat_lt, List, [], ◌∷◌, length, bit_and, unwrap_or}
+use Rattle.std.specs.FinMap.{empty}
 use Rattle.std.specs.Option.{option_map}
 use Rattle.std.specs.declared.option.Option.{Option}
 use Rattle.std.specs.declared.option.Option.TheVariants.{None, Some}
-use Rattle.std.proofs.Common.{refl, sym, ap, subst, ◌∙◌, arith, eq-eqb, ne_eqb}
+use Rattle.std.proofs.Common.{refl, sym, ap, ◌∙◌, arith, eq-eqb, ne_eqb}
 use Rattle.std.proofs.lemmas.Bool.{cond-true, cond-false, le-ltb}
 use Rattle.guest_space.specs.Space.{Space, memory_of, bytes_from}
 use Rattle.guest_space.specs.Access.{AccessFault, Missing, Forbidden, first_fault}
 use Rattle.guest_space.proofs.Spaces.{length-bytes_from}
-use Rattle.abi_calls.specs.declared.call.StreamName.{StreamName}
-use Rattle.abi_calls.specs.declared.call.StreamName.TheVariants as stream
 use Rattle.abi_calls.specs.declared.reply.Reply.{Reply}
 use Rattle.abi_calls.specs.declared.reply.Reply.TheVariants.{Bytes, TooBig}
 use Rattle.abi_calls.specs.declared.threads.Upcall.{Upcall}
-use Rattle.abi_calls.specs.Objects.{Object, Objects, object_at, running}
+use Rattle.abi_calls.specs.Objects.{Objects, object_at, running}
 use Rattle.abi_calls.specs.World.{World, Answer}
 use Rattle.abi_calls.specs.Memory.{memory_read, unless_fault}
 use Rattle.abi_calls.specs.Streams.{stream_of, stream_written, written_to}
@@ -24,7 +21,7 @@ use Rattle.abi_calls.specs.Sound.{IsSound}
 use Rattle.mono_model.specs.Machine as mono
 use Rattle.mono_model.specs.Machine.{Mono, register, returned}
 use Rattle.mono_model.specs.Calls.{Caller, WRITE, EFAULT, error, moved, served, system_call, write_to, write_unless, write_bytes, writable, description_of, memory_at}
-use Rattle.mono_model.specs.Starting.{Started, Runs}
+use Rattle.mono_model.specs.Starting.{Runs}
 use Rattle.libos_state.specs.declared.cont.Cont.{Cont}
 use Rattle.libos_state.specs.declared.cont.Stage.TheVariants.{SetContext, ReadMemory, WriteStream}
 use Rattle.libos_state.specs.declared.notes.Description.{Description}
@@ -33,9 +30,9 @@ use Rattle.libos_state.specs.declared.notes.Kind.{Kind}
 use Rattle.libos_state.specs.declared.notes.Kind.TheVariants.{ConIn, ConOut, ConErr}
 use Rattle.libos_state.specs.declared.notes.ProcessNote.{ProcessNote}
 use Rattle.libos_state.specs.declared.state.LibOs.{LibOs}
-use Rattle.libos_state.specs.Records.{base, stream_of_kind, described, described_in, description_named, descriptor_named, description_behind, description_seen, memory_of_object}
+use Rattle.libos_state.specs.Records.{base, stream_of_kind, described, described_in, description_named, descriptor_named, description_behind, description_seen}
 use Rattle.libos_state.specs.Pending.{asked, upcall_in, argument, number, handle_of, wanted_stream}
-use Rattle.libos_state.specs.Answered.{bare, finishes, goes_on}
+use Rattle.libos_state.specs.Answered.{bare, goes_on}
 use Rattle.libos_state.specs.Meaning.{caller_in, stream_in, stream_described}
 use Rattle.libos_state.specs.Fits.{FitsServed, FitsWrite, FitsWriteBytes}
 use Rattle.libos_state.proofs.Holds.{Holds}
@@ -44,7 +41,7 @@ use Rattle.libos_state.proofs.Bases.{described_alike, memory_there}
 use Rattle.libos_state.proofs.Served.{Running, running_of, served_on, trap_process, caller_process}
 
 -- What a write does, where its descriptor is open for writing and it has bytes to write.
-served_write : (m : Mono) (who : Caller) (cause : ℕ) (d : mono.Description) (s : Space) → cause ≡ 8 → register who.context 17 ≡ WRITE →
+pub served_write : (m : Mono) (who : Caller) (cause : ℕ) (d : mono.Description) (s : Space) → cause ≡ 8 → register who.context 17 ≡ WRITE →
     description_of m who.process (register who.context 10) ≡ Some d → bit_and d.access 2 ≡ 2 → register who.context 12 ≢ 0 → memory_at m who.process ≡ s →
     served m who cause ≡ write_unless m who d.stream (bytes_from (memory_of s) (register who.context 11) (moved (register who.context 12))) (first_fault (memory_of s) 1 (register who.context 11) (moved (register who.context 12)))
 served_write m who cause d s call writes there allowed some memory =
@@ -61,23 +58,27 @@ served_write m who cause d s call writes there allowed some memory =
 moved_within : (count : ℕ) → moved count ≤ 65536
 moved_within count = omega arith
 
+-- The trap of a write, and the description behind its descriptor.
+trap_is : (os : LibOs) (o : Objects) (c : Cont) (fits : FitsServed os o c) → upcall_in c.event ≡ fits.upcall
+trap_is os o c fits = ap upcall_in fits.event
+
+behind_is : (os : LibOs) (o : Objects) (c : Cont) (fits : FitsWrite os o c) → description_behind os (upcall_in c.event).process (argument c 0) ≡ Some fits.description
+behind_is os o c fits = ap (λ (u : Upcall). description_behind os u.process (register u.context 10)) (trap_is os o c fits.served) ∙ fits.behind
+
 -- A service of a write.
 module _ (os : LibOs) (c : Cont) (w : World) (fits : FitsWrite os w.objects c) where
   abbrev trap : Upcall
   trap = upcall_in c.event
 
-  trap_is : upcall_in c.event ≡ fits.served.upcall
-  trap_is = ap upcall_in fits.served.event
-
-  behind_is : description_behind os trap.process (argument c 0) ≡ Some fits.description
-  behind_is = ap (λ (u : Upcall). description_behind os u.process (register u.context 10)) trap_is ∙ fits.behind
+  same_trap : trap ≡ fits.served.upcall
+  same_trap = trap_is os w.objects c fits.served
 
   open_there : description_of (base os w) (caller_in os c).process (register trap.context 10) ≡ Some (description_seen fits.description)
   open_there =
       let served = fits.served in
       ap (λ p. description_of (base os w) p (register trap.context 10)) (caller_process os w.objects c served)
       ∙ described_alike os w served.process trap.process (register trap.context 10) served.records.processes served.records.alive (trap_process os w.objects c served)
-      ∙ ap (option_map description_seen) behind_is
+      ∙ ap (option_map description_seen) (behind_is os w.objects c fits)
 
   runs_there : Running (object_at w.objects fits.served.process.handle)
   runs_there = running_of (object_at w.objects fits.served.process.handle) fits.served.records.memory
@@ -105,10 +106,10 @@ module _ (os : LibOs) (c : Cont) (w : World) (fits : FitsWrite os w.objects c) w
 
   served_is : served (base os w) (caller_in os c) trap.cause ≡ write_unless (base os w) (caller_in os c) (stream_of_kind fits.description.kind) read_bytes read_fault
   served_is = served_write (base os w) (caller_in os c) trap.cause (description_seen fits.description) runs_there.space
-      (ap (λ (u : Upcall). u.cause) trap_is ∙ fits.call)
-      (ap (λ (u : Upcall). register u.context 17) trap_is ∙ fits.write)
+      (ap (λ (u : Upcall). u.cause) same_trap ∙ fits.call)
+      (ap (λ (u : Upcall). register u.context 17) same_trap ∙ fits.write)
       open_there fits.writable
-      (λ none. fits.some (sym (ap (λ (u : Upcall). register u.context 12) trap_is) ∙ none))
+      (λ none. fits.some (sym (ap (λ (u : Upcall). register u.context 12) same_trap) ∙ none))
       memory_is
 
   abbrev write_next : Cont
@@ -125,7 +126,7 @@ module _ (os : LibOs) (c : Cont) (w : World) (fits : FitsWrite os w.objects c) w
       behind = fits.behind;
       writable = fits.writable;
     };
-    count = length-bytes_from (memory_of runs_there.space) (argument c 1) (moved (argument c 2)) ∙ ap (λ (u : Upcall). moved (register u.context 12)) trap_is;
+    count = length-bytes_from (memory_of runs_there.space) (argument c 1) (moved (argument c 2)) ∙ ap (λ (u : Upcall). moved (register u.context 12)) same_trap;
   }
 
   abbrev fails : Cont
@@ -138,7 +139,7 @@ module _ (os : LibOs) (c : Cont) (w : World) (fits : FitsWrite os w.objects c) w
   read_holds : (fault : Option AccessFault) → read_fault ≡ fault → Holds os c ReadMemory w (read_answer fault).0 (read_answer fault).1
   read_holds None is = record {
     fits = writes_next;
-    means = ap (λ x. Runs (write_bytes (base os w) (caller_in os c) (stream_described x) read_bytes)) behind_is ∙ read_means None is;
+    means = ap (λ x. Runs (write_bytes (base os w) (caller_in os c) (stream_described x) read_bytes)) (behind_is os w.objects c fits) ∙ read_means None is;
   }
   read_holds (Some Missing) is = record { fits = served_on os (Some fails) w.objects c fails refl fits.served; means = read_means (Some Missing) is }
   read_holds (Some Forbidden) is = record { fits = served_on os (Some fails) w.objects c fails refl fits.served; means = read_means (Some Forbidden) is }
@@ -160,35 +161,40 @@ pub behind_named : (os : LibOs) (fd : ℕ) (n : Option ProcessNote) (d : Descrip
 behind_named os fd None d is = absurd (cc)
 behind_named os fd (Some n) d is = described_named os.descriptions (descriptor_named fd n.descriptors) d is
 
--- The bytes go to the stream.
-module _ (os : LibOs) (c : Cont) (w : World) (fits : FitsWriteBytes os w.objects c) where
+-- The stream of the descriptor is that of its description.
+module _ (os : LibOs) (c : Cont) (o : Objects) (fits : FitsWriteBytes os o c) where
   abbrev target : Description
   target = fits.writes.description
 
   target_named : Named os.descriptions target
   target_named = behind_named os (register fits.writes.served.upcall.context 10) _ target fits.writes.behind
 
-  target_is : description_behind os (upcall_in c.event).process (argument c 0) ≡ Some target
-  target_is = behind_is os c w fits.writes
+  pub stream_there : stream_of (object_at o (wanted_stream os c)) ≡ Some (stream_of_kind target.kind)
+  stream_there = ap (λ x. stream_of (object_at o (handle_of x))) (behind_is os o c fits.writes) ∙ ap stream_of (fits.writes.served.records.streams target_named.id target target_named.named)
 
-  stream_there : stream_of (object_at w.objects (wanted_stream os c)) ≡ Some (stream_of_kind target.kind)
-  stream_there = ap (λ x. stream_of (object_at w.objects (handle_of x))) target_is ∙ ap stream_of (fits.writes.served.records.streams target_named.id target target_named.named)
+  target_no_input : target.kind ≢ ConIn
+  target_no_input is = fits.writes.served.records.inputs target_named.id target target_named.named is fits.writes.writable
+
+-- The bytes go to the stream.
+module _ (os : LibOs) (c : Cont) (w : World) (fits : FitsWriteBytes os w.objects c) where
+  abbrev kind : Kind
+  kind = fits.writes.description.kind
 
   few_bytes : length c.bytes ≤ 65536
   few_bytes = let is = fits.count in let within = moved_within (register fits.writes.served.upcall.context 12) in omega arith
 
-  row_written : stream_written w (number c 0) c.bytes (stream_of (object_at w.objects (wanted_stream os c))) ≡ written_to w (number c 0) c.bytes (stream_of_kind target.kind)
-  row_written = ap (stream_written w (number c 0) c.bytes) stream_there
-      ∙ cond-false (nat_lt 65536 (length c.bytes)) (TooBig, w) (written_to w (number c 0) c.bytes (stream_of_kind target.kind)) (le-ltb 65536 (length c.bytes) few_bytes)
+  row_written : stream_written w (number c 0) c.bytes (stream_of (object_at w.objects (wanted_stream os c))) ≡ written_to w (number c 0) c.bytes (stream_of_kind kind)
+  row_written = ap (stream_written w (number c 0) c.bytes) (stream_there os c w.objects fits)
+      ∙ cond-false (nat_lt 65536 (length c.bytes)) (TooBig, w) (written_to w (number c 0) c.bytes (stream_of_kind kind)) (le-ltb 65536 (length c.bytes) few_bytes)
 
-  stream_is : (k : Kind) → target.kind ≡ k → stream_in os c ≡ stream_of_kind k
-  stream_is k is = ap stream_described target_is ∙ ap stream_of_kind is
+  stream_is : (k : Kind) → kind ≡ k → stream_in os c ≡ stream_of_kind k
+  stream_is k is = ap stream_described (behind_is os w.objects c fits.writes) ∙ ap stream_of_kind is
 
   abbrev done : Cont
   done = record (bare c SetContext) { next = returned (upcall_in c.event).context (length c.bytes) }
 
-  write_holds : (k : Kind) → target.kind ≡ k → Holds os c WriteStream w (written_to w (number c 0) c.bytes (stream_of_kind k)).0 (written_to w (number c 0) c.bytes (stream_of_kind k)).1
-  write_holds ConIn is = absurd (fits.writes.served.records.inputs target_named.id target target_named.named is fits.writes.writable)
+  write_holds : (k : Kind) → kind ≡ k → Holds os c WriteStream w (written_to w (number c 0) c.bytes (stream_of_kind k)).0 (written_to w (number c 0) c.bytes (stream_of_kind k)).1
+  write_holds ConIn is = absurd (target_no_input os c w.objects fits is)
   write_holds ConOut is = record {
     fits = served_on os (Some done) w.objects c done refl fits.writes.served;
     means = ap (λ s. Runs (write_bytes (base os w) (caller_in os c) s c.bytes)) (sym (stream_is ConOut is));
