@@ -13,7 +13,7 @@ use Rattle.std.specs.FinMap.Entries.{find, below_all, is_sorted, same_entries}
 use Rattle.rv_core.specs.Memory.{Memory}
 use Rattle.guest_space.specs.Space.{Space, Frame, in_run, blank, cell_in, memory_of, with_run, protected, with_memory}
 use Rattle.guest_space.specs.Run.{first_held, first_missing, is_held, if_held, if_missing}
-use Rattle.guest_space.specs.Access.{AccessFault, Forbidden, fault_of_cell, first_fault, with_bytes}
+use Rattle.guest_space.specs.Access.{Forbidden, fault_of_cell, first_fault, with_bytes}
 use Rattle.guest_space.proofs.Gets.{get-with_run, get-protected, get-with_memory, frame_in_run, frame_of_memory}
 use Rattle.guest_space.proofs.Puts.{same_spaces}
 use Rattle.guest_space.proofs.FirstSome.{first_some-none}
@@ -101,12 +101,12 @@ marks_of_same (Some x) (Some y) same = refl
 pub same_len : {X Y : Type 0} (s : FinMap nat_cmp X) (t : FinMap nat_cmp Y) → ((q : ℕ) → is_some (get s q) ≡ is_some (get t q)) → len s ≡ len t
 same_len s t same =
     let found : (q : ℕ) → find nat_cmp q (marked (entries s)) ≡ find nat_cmp q (marked (entries t)) = λ q.
-        find-marked q (entries s) ∙ ap mark (sym (get-entries s q))
-        ∙ marks_of_same (get s q) (get t q) (same q)
-        ∙ ap mark (get-entries t q) ∙ sym (find-marked q (entries t)) in
+    find-marked q (entries s) ∙ ap mark (sym (get-entries s q))
+    ∙ marks_of_same (get s q) (get t q) (same q)
+    ∙ ap mark (get-entries t q) ∙ sym (find-marked q (entries t)) in
     let marks : marked (entries s) ≡ marked (entries t) =
-        same_entries nat_cmp nat_cmp_total nat_cmp-IsAntisymmetric (marked (entries s)) (marked (entries t))
-        (subst T (sym (is_sorted-marked (entries s))) (entries_sorted s)) (subst T (sym (is_sorted-marked (entries t))) (entries_sorted t)) found in
+    same_entries nat_cmp nat_cmp_total nat_cmp-IsAntisymmetric (marked (entries s)) (marked (entries t))
+    (subst T (sym (is_sorted-marked (entries s))) (entries_sorted s)) (subst T (sym (is_sorted-marked (entries t))) (entries_sorted t)) found in
     len-entries s ∙ sym (length-marked (entries s)) ∙ ap length marks ∙ length-marked (entries t) ∙ sym (len-entries t)
 
 -- Spaces with the same rights everywhere have as many pages.
@@ -132,7 +132,7 @@ unfolding with_run
 len-with_run s page zero rights absent = let e : len s ≡ len s + 0 = omega arith in e
 len-with_run s page (suc n) rights absent =
     let missing : is_held (with_run s page n rights) (page + n) ≡ false =
-        ap is_some (get-with_run s page n rights (page + n) ∙ cond-false _ _ _ (last_outside page n)) ∙ absent (page + n) (omega arith) (omega arith) in
+    ap is_some (get-with_run s page n rights (page + n) ∙ cond-false _ _ _ (last_outside page n)) ∙ absent (page + n) (omega arith) (omega arith) in
     len-insert nat_cmp_total (with_run s page n rights) (page + n) (blank rights)
     ∙ cond-false _ _ _ missing
     ∙ ap (λ k. k + 1) (len-with_run s page n rights (λ q low high. absent q low (omega arith)))

@@ -1,5 +1,5 @@
 -- A start begins in a world without objects, and ends when its thread becomes ready: the library OS is up.
-use Rattle.std.specs.Prelude.{◌≡◌, ◌≢◌, ℕ, ◌≤◌, bit_and, Bool, true, false, cond, not, ◌||◌, ◌==◌, if◌then◌else◌, nat_le, List, [], ◌∷◌, ◌++◌, length, slice_index, is_some, filter_map}
+use Rattle.std.specs.Prelude.{◌≡◌, ◌≢◌, ℕ, ◌≤◌, bit_and, Bool, true, false, not, ◌==◌, if◌then◌else◌, nat_le, List, [], ◌∷◌, ◌++◌, length, slice_index, is_some, filter_map}
 use Rattle.std.specs.List.{list_all}
 use Rattle.std.specs.Option.{option_map}
 use Rattle.std.specs.Ordering.{nat_cmp}
@@ -9,21 +9,21 @@ use Rattle.std.specs.declared.option.Option.TheVariants.{None, Some}
 use Rattle.std.proofs.Common.{refl, sym, ap, ◌∙◌, subst, arith, eq-eqb, ne_eqb, le-leb}
 use Rattle.std.proofs.lemmas.Bool.{and_from, or_from}
 use Rattle.std.proofs.lemmas.Option.{none-some, same_Some}
-use Rattle.rv_core.specs.declared.context.Context.{Context}
 use Rattle.abi_calls.specs.declared.call.StreamName.TheVariants as stream
-use Rattle.abi_calls.specs.declared.object.Object.TheVariants.{Process, Thread, Event, Stream}
+use Rattle.abi_calls.specs.declared.object.Object.TheVariants.{Event, Stream}
 use Rattle.abi_calls.specs.declared.reply.Reply.{Reply}
-use Rattle.abi_calls.specs.declared.reply.Reply.TheVariants.{Done, Busy}
+use Rattle.abi_calls.specs.declared.reply.Reply.TheVariants.{Done}
 use Rattle.abi_calls.specs.declared.settings.Settings.{Settings}
-use Rattle.abi_calls.specs.Objects.{Object, Objects, Live, object_at, running, contains, without, is_at, kept, is_process, is_thread}
-use Rattle.abi_calls.specs.World.{World, Answer, with_objects}
-use Rattle.abi_calls.specs.Threads.{is_resting, started, thread_resumed}
+use Rattle.abi_calls.specs.Objects.{Object, Objects, Live, running, without, kept, is_process, is_thread}
+use Rattle.abi_calls.specs.World.{World, with_objects}
+use Rattle.abi_calls.specs.Threads.{started}
 use Rattle.abi_calls.specs.Processes.{is_acceptable}
 use Rattle.abi_calls.specs.Abi.{Abi, answer}
 use Rattle.abi_calls.specs.Sound.{IsSound}
 use Rattle.abi_calls.specs.Fresh.{IsFreshWorld}
 use Rattle.abi_calls.proofs.NumberMaps.{get_none}
 use Rattle.abi_calls.proofs.Facts.{no_threads}
+use Rattle.abi_calls.proofs.Worked.{resume_suspended}
 use Rattle.mono_model.specs.Starting.{Runs, begun, boot}
 use Rattle.libos_state.specs.declared.cont.Cont.{Cont}
 use Rattle.libos_state.specs.declared.cont.Stage.TheVariants.{StartThread}
@@ -32,10 +32,10 @@ use Rattle.libos_state.specs.declared.notes.Kind.TheVariants as kind
 use Rattle.libos_state.specs.declared.notes.ProcessNote.{ProcessNote}
 use Rattle.libos_state.specs.declared.notes.ThreadNote.{ThreadNote}
 use Rattle.libos_state.specs.declared.state.LibOs.{LibOs}
-use Rattle.libos_state.specs.Records.{stream_of_kind, description_named, thread_with, tids_of}
+use Rattle.libos_state.specs.Records.{stream_of_kind, tids_of}
 use Rattle.libos_state.specs.Pending.{asked, handle, file_or_child}
-use Rattle.libos_state.specs.Answered.{comes_up, console_descriptors, console_descriptions}
-use Rattle.libos_state.specs.Entered.{booting, handles_of}
+use Rattle.libos_state.specs.Answered.{comes_up, console_descriptors}
+use Rattle.libos_state.specs.Entered.{booting}
 use Rattle.libos_state.specs.Meaning.{unstarted, child_memory, child_context}
 use Rattle.libos_state.specs.Fits.{FitsStage, FitsEvent, FitsRecords, IsStream, Opened, Closable, is_closable, NoneLive, passes}
 use Rattle.libos_state.proofs.Holds.{Holds}
@@ -86,19 +86,11 @@ boot_fits program args settings w answered can fresh sound =
 
 -- ---- its end: the thread becomes ready
 
-rests : (o : Objects) (t : ℕ) → o.suspended ≡ t ∷ [] → is_resting o t ≡ true
-rests o t suspended = ap (λ ts. contains ts t || is_at t o.current) suspended ∙ ap (λ b. (b || false) || is_at t o.current) (eq-eqb t t refl)
-
-resume_row : (w : World) (t p : ℕ) (context : Context) → object_at w.objects t ≡ Some (Thread p context) → w.objects.suspended ≡ t ∷ [] →
-    thread_resumed w t (object_at w.objects t) ≡ (Done, with_objects w (started w.objects t))
-resume_row w t p context there suspended =
-    ap (thread_resumed w t) there ∙ ap {B = Answer} (λ b. if b then (Done, with_objects w (started w.objects t)) else (Busy, w)) (rests w.objects t suspended)
-
 none_rests : (t : ℕ) (suspended : List ℕ) → suspended ≡ t ∷ [] → without suspended t ≡ []
 none_rests t suspended is = ap (λ ts. without ts t) is ∙ ap (λ b. if not b then t ∷ [] else []) (eq-eqb t t refl)
 
 -- The three ends of the console, by their handles.
-pub record HasConsole (live : Live) (handles : List ℕ) : Type 0 where
+record HasConsole (live : Live) (handles : List ℕ) : Type 0 where
   pub input : IsStream live stream.ConIn (slice_index handles 0)
   pub output : IsStream live stream.ConOut (slice_index handles 1)
   pub errors : IsStream live stream.ConErr (slice_index handles 2)
@@ -124,11 +116,19 @@ console_closable live handles e set console event =
     let ei : (e == i) ≡ false = apart live e i (Event set) (Stream stream.ConIn) event console.input (λ same. absurd (cc)) in
     let ro : (r == o) ≡ false = apart live r o (Stream stream.ConErr) (Stream stream.ConOut) console.errors console.output (λ same. absurd (cc)) in
     let eo : (e == o) ≡ false = apart live e o (Event set) (Stream stream.ConOut) event console.output (λ same. absurd (cc)) in
-    let er : (e == r) ≡ false = apart live e r (Event set) (Stream stream.ConErr) event console.errors (λ same. absurd (cc)) in
-    (ap is_closable console.input, or_from _ _ oi (or_from _ _ ri (or_from _ _ ei refl)),
-    (ap is_closable console.output, or_from _ _ ro (or_from _ _ eo refl),
-    (ap is_closable console.errors, or_from _ _ er refl,
-    (ap is_closable event, refl, tt))))
+    let er : (e == r) ≡ false = apart live e r (Event set) (Stream stream.ConErr) event console.errors (λ same. absurd (cc)) in (
+      ap is_closable console.input,
+      or_from _ _ oi (or_from _ _ ri (or_from _ _ ei refl)),
+      (
+        ap is_closable console.output,
+        or_from _ _ ro (or_from _ _ eo refl),
+        (
+          ap is_closable console.errors,
+          or_from _ _ er refl,
+          (ap is_closable event, refl, tt),
+        ),
+      ),
+    )
 
 one_of_three : (P : Description → Type 0) (a b c : Bool) (x y z d : Description) → P x → P y → P z → (if a then Some x else (if b then Some y else (if c then Some z else None))) ≡ Some d → P d
 one_of_three P true b c x y z d px py pz is = subst P (same_Some x d is) px
@@ -165,7 +165,7 @@ keeps_start_thread os c w w' r fits sound abi =
     let t = handle c 4 in
     let process : ProcessNote = record { pid = 1; handle = file_or_child c; code = None; descriptors = console_descriptors } in
     let thread : ThreadNote = record { tid = 1; pid = 1; handle = t; event = handle c 5 } in
-    let row : answer w (asked os c StartThread) r ≡ (Done, with_objects w (started w.objects t)) = resume_row w t (file_or_child c) fits.thread.context fits.thread.thread fits.thread.suspended in
+    let row : answer w (asked os c StartThread) r ≡ (Done, with_objects w (started w.objects t)) = resume_suspended w t (file_or_child c) fits.thread.context r fits.thread.thread fits.thread.suspended in
     let records = begun_records os c w.objects fits in
     by_row os c StartThread w w' r (Done, with_objects w (started w.objects t)) abi row
     (record {

@@ -20,3 +20,4 @@ pub mod Turning
 pub mod Entering
 pub mod Taken
 pub mod Answering
+pub mod Stages

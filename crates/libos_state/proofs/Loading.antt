@@ -1,5 +1,5 @@
 -- The program's pages are made, filled and given their rights.
-use Rattle.std.specs.Prelude.{◌≡◌, ℕ, ◌+◌, ◌-◌, ◌*◌, ◌≤◌, ◌<◌, Bool, true, false, ◌==◌, if◌then◌else◌, nat_lt, nat_le, List, [], ◌∷◌, ◌++◌, length, take, drop, slice_index}
+use Rattle.std.specs.Prelude.{◌≡◌, ℕ, ◌+◌, ◌-◌, ◌*◌, ◌≤◌, ◌<◌, Bool, true, false, ◌==◌, if◌then◌else◌, nat_lt, List, [], ◌∷◌, length, take, drop, slice_index}
 use Rattle.std.specs.FinMap.{empty, len, len-empty}
 use Rattle.std.specs.Ordering.{nat_cmp}
 use Rattle.std.specs.Option.{option_map}
@@ -8,15 +8,14 @@ use Rattle.std.specs.declared.option.Option.TheVariants.{None, Some}
 use Rattle.std.proofs.Common.{refl, sym, ap, ◌∙◌, subst, arith, ltb-true, ltb-false, le-leb, lt-ltb, ne_eqb, drop-drop, length-drop, length-take}
 use Rattle.std.proofs.lemmas.Bool.{and_from}
 use Rattle.std.proofs.lemmas.List.{take_all}
-use Rattle.guest_space.specs.Space.{Space, Frame, memory_of, with_run, protected, with_memory}
+use Rattle.guest_space.specs.Space.{Space, Frame, with_run, protected}
 use Rattle.guest_space.specs.Run.{is_run}
-use Rattle.guest_space.specs.Access.{with_bytes}
-use Rattle.guest_space.proofs.Filling.{page_rights, filled, filled-append, first_held-none, first_missing-none, first_fault-none}
+use Rattle.guest_space.proofs.Filling.{filled, filled-append, first_held-none, first_missing-none, first_fault-none}
 use Rattle.abi_calls.specs.declared.object.Object.TheVariants.{Process}
 use Rattle.abi_calls.specs.declared.reply.Reply.{Reply}
 use Rattle.abi_calls.specs.declared.reply.Reply.TheVariants.{Done}
 use Rattle.abi_calls.specs.Objects.{object_at}
-use Rattle.abi_calls.specs.World.{World, Answer}
+use Rattle.abi_calls.specs.World.{World}
 use Rattle.abi_calls.specs.Memory.{with_pages}
 use Rattle.abi_calls.specs.Abi.{Abi, answer}
 use Rattle.abi_calls.specs.Sound.{IsSound}

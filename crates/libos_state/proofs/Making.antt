@@ -17,21 +17,21 @@ use Rattle.abi_calls.specs.Threads.{thread_created}
 use Rattle.abi_calls.specs.Abi.{Abi, answer, drawn}
 use Rattle.abi_calls.specs.Sound.{IsSound}
 use Rattle.abi_calls.proofs.NumberMaps.{get_same}
-use Rattle.mono_model.specs.Program.{Program, plain_program}
+use Rattle.mono_model.specs.Program.{plain_program}
 use Rattle.mono_model.specs.Starting.{begun_from, start_context, loaded_run, stacked}
 use Rattle.libos_state.specs.declared.cont.Cont.{Cont}
 use Rattle.libos_state.specs.declared.cont.Stage.TheVariants.{CreateProcess, AllocateRun, CreateThread, CreateEvent, StartThread}
 use Rattle.libos_state.specs.declared.state.LibOs.{LibOs}
 use Rattle.libos_state.specs.Records.{memory_of_object, context_of}
 use Rattle.libos_state.specs.Pending.{arguments, asked, handle, file_or_child, run_in}
-use Rattle.libos_state.specs.Meaning.{unstarted, child_memory, child_context, begins, begins_with}
-use Rattle.libos_state.specs.Fits.{FitsStage, FitsChild, FitsThread, Opened}
+use Rattle.libos_state.specs.Meaning.{unstarted, begins, begins_with}
+use Rattle.libos_state.specs.Fits.{FitsStage, Opened}
 use Rattle.libos_state.proofs.Holds.{Holds}
 use Rattle.libos_state.proofs.Keeping.{by_row, drawn_new, object_kept, none_set, number_none}
 use Rattle.libos_state.proofs.Starts.{start_goes_on, opened_with, opened_longer}
 
 -- One more handle, of a new object: those before it name what they named.
-pub record MadeBehind (live : Live) (handles : List ℕ) (h : ℕ) (x : Object) : Type 0 where
+record MadeBehind (live : Live) (handles : List ℕ) (h : ℕ) (x : Object) : Type 0 where
   pub opened : Opened (insert live h x) (handles ++ h ∷ [])
   pub long : length (handles ++ h ∷ []) ≡ length handles + 1
   pub last : slice_index (handles ++ h ∷ []) (length handles) ≡ h
@@ -39,7 +39,7 @@ pub record MadeBehind (live : Live) (handles : List ℕ) (h : ℕ) (x : Object) 
   pub before : (n : ℕ) → n < length handles → slice_index (handles ++ h ∷ []) n ≡ slice_index handles n
   pub stays : (n : ℕ) (y : Object) → n < length handles → get {R = nat_cmp} live (slice_index handles n) ≡ Some y → get {R = nat_cmp} (insert live h x) (slice_index (handles ++ h ∷ []) n) ≡ Some y
 
-pub made_behind : (live : Live) (handles : List ℕ) (h : ℕ) (x : Object) → get {R = nat_cmp} live h ≡ None → 3 ≤ length handles → Opened live handles → MadeBehind live handles h x
+made_behind : (live : Live) (handles : List ℕ) (h : ℕ) (x : Object) → get {R = nat_cmp} live h ≡ None → 3 ≤ length handles → Opened live handles → MadeBehind live handles h x
 made_behind live handles h x free long opened =
     let last : slice_index (handles ++ h ∷ []) (length handles) ≡ h = get_or_push handles h 0 (length handles) refl in
     let before : (n : ℕ) → n < length handles → slice_index (handles ++ h ∷ []) n ≡ slice_index handles n = λ n low. get_or_append_left handles (h ∷ []) 0 n low in

@@ -1,7 +1,5 @@
 -- The first stages of a start: the host gets the settings, and the console and the program's file are opened.
 use Rattle.std.specs.Prelude.{◌≡◌, ℕ, ◌≤◌, Bool, true, false, not, ◌||◌, ◌==◌, if◌then◌else◌, nat_lt, List, [], ◌∷◌, ◌++◌, length, slice_index}
-use Rattle.std.specs.Ordering.{nat_cmp}
-use Rattle.std.specs.FinMap.{get, insert}
 use Rattle.std.specs.Option.{unwrap_or}
 use Rattle.std.specs.declared.option.Option.{Option}
 use Rattle.std.specs.declared.option.Option.TheVariants.{None, Some}
@@ -16,7 +14,7 @@ use Rattle.abi_calls.specs.declared.reply.Reply.TheVariants.{Done, Handle, NotFo
 use Rattle.abi_calls.specs.declared.settings.Positions.{Positions}
 use Rattle.abi_calls.specs.declared.settings.Settings.{Settings}
 use Rattle.abi_calls.specs.Objects.{Objects, object_at, number_of, with_object}
-use Rattle.abi_calls.specs.World.{World, Answer, with_objects}
+use Rattle.abi_calls.specs.World.{World, with_objects}
 use Rattle.abi_calls.specs.Streams.{stream_of, opened, stream_opened, file_opened}
 use Rattle.abi_calls.specs.Processes.{is_running, is_acceptable, configured}
 use Rattle.abi_calls.specs.Abi.{Abi, answer, drawn}
@@ -27,10 +25,10 @@ use Rattle.libos_state.specs.declared.cont.Cont.{Cont}
 use Rattle.libos_state.specs.declared.cont.Stage.TheVariants.{OpenConsole, OpenProgram, ProgramLength}
 use Rattle.libos_state.specs.declared.cont.Stage.TheVariants as stage
 use Rattle.libos_state.specs.declared.state.LibOs.{LibOs}
-use Rattle.libos_state.specs.Pending.{program_name, arguments, console_name, no_positions, asked, file_or_child}
-use Rattle.libos_state.specs.Answered.{next, goes_on, starting, opens_on}
-use Rattle.libos_state.specs.Meaning.{unstarted, job_in, name_in, program_file, meaning, meant_at}
-use Rattle.libos_state.specs.Fits.{FitsStart, FitsOpening, FitsStage, Fits, Opened}
+use Rattle.libos_state.specs.Pending.{program_name, arguments, console_name, no_positions, asked}
+use Rattle.libos_state.specs.Answered.{goes_on, starting}
+use Rattle.libos_state.specs.Meaning.{unstarted, job_in, name_in}
+use Rattle.libos_state.specs.Fits.{FitsStart, FitsOpening, FitsStage, Opened}
 use Rattle.libos_state.proofs.Holds.{Holds}
 use Rattle.libos_state.proofs.Keeping.{Stands, by_row, drawn_new, none_runs}
 use Rattle.libos_state.proofs.Starts.{IsUnbegun, unbegun_opening, unbegun_opened, opening_goes_on, opened_with, opened_more, opened_longer}
@@ -117,7 +115,7 @@ opened_program os c w w' r fits abi (Some bytes) is =
     let ends : Opened o.live handles = opened_longer o.live c.handles (h ∷ []) (let count = fits.count in omega arith) front in
     let long : length handles ≡ 4 = let count = fits.count in omega (arith, length_push c.handles h) in
     let contents : file_bytes w.contents.files (name_in (stream_of (object_at o (slice_index handles 3)))) ≡ bytes =
-        ap (λ x. file_bytes w.contents.files (name_in (stream_of x))) file ∙ ap (λ f. unwrap_or f []) is in
+    ap (λ x. file_bytes w.contents.files (name_in (stream_of x))) file ∙ ap (λ f. unwrap_or f []) is in
     by_row os c OpenProgram w w' r (Handle h, with_objects w o) abi row
     (record {
       fits = record {

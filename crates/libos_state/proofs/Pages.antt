@@ -1,23 +1,22 @@
 -- The pages of the process that is made, and the calls on them.
-use Rattle.std.specs.Prelude.{◌≡◌, ℕ, ◌+◌, ◌*◌, ◌≤◌, ◌<◌, Bool, true, false, cond, not, ◌&&◌, ◌||◌, ◌==◌, if◌then◌else◌, nat_lt, nat_le, is_some, bit_and, List, length}
+use Rattle.std.specs.Prelude.{◌≡◌, ℕ, ◌+◌, ◌≤◌, ◌<◌, Bool, true, false, cond, not, ◌&&◌, ◌||◌, ◌==◌, if◌then◌else◌, nat_lt, nat_le, is_some, List, length}
 use Rattle.std.specs.Ordering.{nat_cmp}
-use Rattle.std.specs.FinMap.{get, insert, empty, len, len-empty}
+use Rattle.std.specs.FinMap.{empty, len, len-empty}
 use Rattle.std.specs.Option.{option_map}
 use Rattle.std.specs.declared.option.Option.{Option}
 use Rattle.std.specs.declared.option.Option.TheVariants.{None, Some}
 use Rattle.std.proofs.Common.{refl, sym, ap, ◌∙◌, arith, le-leb, leb-true, lt-ltb, ltb-true, le-ltb}
 use Rattle.std.proofs.lemmas.Bool.{and_from, and_parts, and_right, cond-true}
 use Rattle.std.proofs.lemmas.Bool.Decides.{nat_tests}
-use Rattle.std.proofs.lemmas.Option.{same_Some}
 use Rattle.guest_space.specs.Space.{Space, Frame, in_run, memory_of, with_run, protected, with_memory}
-use Rattle.guest_space.specs.Run.{is_run, is_held, first_held, first_missing}
+use Rattle.guest_space.specs.Run.{is_run, first_held, first_missing}
 use Rattle.guest_space.specs.Access.{first_fault, with_bytes}
 use Rattle.guest_space.proofs.Filling.{page_rights, page_rights-with_run, page_rights-protected, page_rights-with_memory, is_held-rights, len-with_run, len-protected, len-with_memory}
 use Rattle.rv_core.specs.Memory.{Memory}
 use Rattle.abi_calls.specs.declared.object.Object.TheVariants.{Process, Stream}
 use Rattle.abi_calls.specs.declared.reply.Reply.TheVariants.{Done, Exists, BadAddress, NoRoom, TooBig}
 use Rattle.abi_calls.specs.Objects.{Object, Objects, object_at, running, is_thread, with_object}
-use Rattle.abi_calls.specs.World.{World, Answer}
+use Rattle.abi_calls.specs.World.{World}
 use Rattle.abi_calls.specs.Memory.{with_pages, allocated, reprotected, memory_written, unless_fault}
 use Rattle.abi_calls.proofs.NumberMaps.{get_none, get_same, get_other}
 use Rattle.mono_model.specs.Program.{page_count}

@@ -1,6 +1,6 @@
 -- A list taken piece by piece.
-use Rattle.std.specs.Prelude.{◌≡◌, ℕ, ◌+◌, ◌-◌, ◌≤◌, List, [], ◌++◌, length, take, drop, min}
-use Rattle.std.proofs.Common.{refl, sym, ap, ◌∙◌, arith, inl, inr, append_assoc, append-nil, drop-drop, length-append, length-take, take-append-drop}
+use Rattle.std.specs.Prelude.{◌≡◌, ℕ, ◌+◌, ◌-◌, ◌≤◌, List, [], ◌++◌, length, take, drop}
+use Rattle.std.proofs.Common.{sym, ap, ◌∙◌, arith, inl, inr, append_assoc, append-nil, drop-drop, length-append, length-take, take-append-drop}
 use Rattle.std.proofs.lemmas.Bool.{cases_lt}
 use Rattle.std.proofs.lemmas.List.{nil_from_length, take_all, drop_all}
 use lib.Seq.{take-add}
@@ -12,7 +12,7 @@ piece_and_rest xs k n within =
       | inl short ↦
           let whole : take k xs ≡ xs = take_all k xs (omega arith) in
           let rest : take (n - length (take k xs)) (drop (length (take k xs)) xs) ≡ [] =
-              ap (λ ys. take (n - length ys) (drop (length ys) xs)) whole ∙ ap (take (n - length xs)) (drop_all (length xs) xs (omega arith)) ∙ nil_from_length (take (n - length xs) []) (omega (arith, length-take {A = ℕ} (n - length xs) [])) in
+          ap (λ ys. take (n - length ys) (drop (length ys) xs)) whole ∙ ap (take (n - length xs)) (drop_all (length xs) xs (omega arith)) ∙ nil_from_length (take (n - length xs) []) (omega (arith, length-take {A = ℕ} (n - length xs) [])) in
           (λ i. whole i ++ rest i) ∙ append-nil xs ∙ sym (take_all n xs (omega arith))
       | inr long ↦
           let full : length (take k xs) ≡ k = omega (arith, length-take k xs) in

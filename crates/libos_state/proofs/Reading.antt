@@ -1,5 +1,5 @@
 -- The program's file is read and closed.
-use Rattle.std.specs.Prelude.{◌≡◌, ℕ, ◌+◌, ◌-◌, ◌≤◌, ◌<◌, Bool, true, false, not, ◌==◌, if◌then◌else◌, nat_lt, nat_le, List, [], ◌∷◌, ◌++◌, length, take, drop, min, slice_index}
+use Rattle.std.specs.Prelude.{◌≡◌, ℕ, ◌-◌, ◌≤◌, Bool, true, false, ◌==◌, if◌then◌else◌, nat_lt, nat_le, List, [], ◌∷◌, ◌++◌, length, take, drop, min, slice_index}
 use Rattle.std.specs.declared.option.Option.{Option}
 use Rattle.std.specs.declared.option.Option.TheVariants.{None, Some}
 use Rattle.std.proofs.Common.{refl, sym, ap, ◌∙◌, arith, le-ltb, eqb-true, leb-true, leb-false, ne_eqb, append-nil, length-append, length-take, true≢false}
@@ -7,7 +7,7 @@ use Rattle.std.proofs.lemmas.Bool.{eqb-false}
 use Rattle.std.proofs.lemmas.List.{nil_from_length, take_all}
 use Rattle.bas_edge.specs.Files.{file_bytes}
 use Rattle.abi_calls.specs.declared.call.StreamName.{StreamName}
-use Rattle.abi_calls.specs.declared.call.StreamName.TheVariants.{File, ConIn, ConOut, ConErr}
+use Rattle.abi_calls.specs.declared.call.StreamName.TheVariants.{File}
 use Rattle.abi_calls.specs.declared.object.Object.TheVariants.{Stream}
 use Rattle.abi_calls.specs.declared.reply.Reply.{Reply}
 use Rattle.abi_calls.specs.declared.reply.Reply.TheVariants.{Done, Bytes, Length, TooBig}
@@ -25,12 +25,12 @@ use Rattle.libos_state.specs.declared.cont.Stage.{Stage}
 use Rattle.libos_state.specs.declared.cont.Stage.TheVariants.{ProgramLength, ReadProgram, CloseProgram, CreateProcess}
 use Rattle.libos_state.specs.declared.state.LibOs.{LibOs}
 use Rattle.libos_state.specs.Pending.{number, arguments, asked, file_or_child, PIECE}
-use Rattle.libos_state.specs.Answered.{next, goes_on, starting, reads_length, reads_on, loads}
+use Rattle.libos_state.specs.Answered.{goes_on, starting, loads}
 use Rattle.libos_state.specs.Meaning.{unstarted, name_in, program_file, meant_at}
 use Rattle.libos_state.specs.Fits.{FitsFile, FitsReading, FitsStage, IsStream, Opened}
 use Rattle.libos_state.proofs.Holds.{Holds}
 use Rattle.libos_state.proofs.Keeping.{Stands, by_row}
-use Rattle.libos_state.proofs.Starts.{IsUnbegun, unbegun_opening, unbegun_closed, opening_goes_on, opened_kept, opened_front}
+use Rattle.libos_state.proofs.Starts.{unbegun_opening, unbegun_closed, opening_goes_on, opened_kept, opened_front}
 use Rattle.libos_state.proofs.Pieces.{read_and_rest, nothing_left, piece_is_all}
 
 -- The file stays open while the start goes on with these bytes and numbers.
@@ -61,7 +61,7 @@ pub keeps_program_length : (os : LibOs) (c : Cont) (w w' : World) (r : Reply) �
 keeps_program_length os c w w' r fits sound abi =
     let size = length (program_file w c) in
     let row : answer w (asked os c ProgramLength) r ≡ (Length size, w) =
-        ap (λ x. stream_length w (stream_of x)) fits.file ∙ ap {B = Answer} (λ x. (Length (length (file_bytes w.contents.files (name_in (stream_of x)))), w)) (sym fits.file) in
+    ap (λ x. stream_length w (stream_of x)) fits.file ∙ ap {B = Answer} (λ x. (Length (length (file_bytes w.contents.files (name_in (stream_of x)))), w)) (sym fits.file) in
     by_row os c ProgramLength w w' r (Length size, w) abi row (length_stands os c w size (size == 0) fits refl refl)
 
 -- ---- a piece is read
@@ -81,7 +81,7 @@ piece_stands os c w true last fits none _ =
     let size = size_kept os c w.objects fits in
     let more = fits.more in
     let rest : take (number c 0 - length c.bytes) (drop (length c.bytes) (program_file w c)) ≡ [] =
-        nothing_left (drop (length c.bytes) (program_file w c)) (min PIECE (number c 0 - length c.bytes)) (number c 0 - length c.bytes) (omega arith) (eqb-true (length (piece_of w c)) 0 none) in
+    nothing_left (drop (length c.bytes) (program_file w c)) (min PIECE (number c 0 - length c.bytes)) (number c 0 - length c.bytes) (omega arith) (eqb-true (length (piece_of w c)) 0 none) in
     record {
       fits = file_goes_on os w.objects c CloseProgram c.bytes [] fits.file;
       means = ap (started_with (unstarted w) (arguments c)) (sym (ap (λ xs. c.bytes ++ xs) rest ∙ append-nil c.bytes));
@@ -89,7 +89,7 @@ piece_stands os c w true last fits none _ =
 piece_stands os c w false true fits some last =
     let long = leb-true (number c 0) (length (c.bytes ++ piece_of w c)) last in
     let all : piece_of w c ≡ take (number c 0 - length c.bytes) (drop (length c.bytes) (program_file w c)) =
-        piece_is_all (drop (length c.bytes) (program_file w c)) (min PIECE (number c 0 - length c.bytes)) (number c 0 - length c.bytes) (omega arith) (omega (arith, length-append c.bytes (piece_of w c))) in
+    piece_is_all (drop (length c.bytes) (program_file w c)) (min PIECE (number c 0 - length c.bytes)) (number c 0 - length c.bytes) (omega arith) (omega (arith, length-append c.bytes (piece_of w c))) in
     record {
       fits = file_goes_on os w.objects c CloseProgram (c.bytes ++ piece_of w c) [] fits.file;
       means = ap (λ xs. started_with (unstarted w) (arguments c) (c.bytes ++ xs)) all;
@@ -123,7 +123,7 @@ keeps_read_program os c w w' r fits sound abi =
 console_kept : (o : Objects) (h : ℕ) (file : List ℕ) → IsStream o.live (File file) h → (a : ℕ) (name : StreamName) → is_file (Some name) ≡ false → IsStream o.live name a → IsStream (without_handles o (λ k. k == h)).live name a
 console_kept o h file held a name console there =
     let apart : (a ≡ h) → ⊥ = λ same. let both : Some (Stream (File file)) ≡ Some (Stream name) = sym held ∙ ap (object_at o) (sym same) ∙ there in
-        let e : File file ≡ name = cc in true≢false (ap (λ n. is_file (Some n)) e ∙ console) in
+    let e : File file ≡ name = cc in true≢false (ap (λ n. is_file (Some n)) e ∙ console) in
     without_at o (λ k. k == h) a (ne_eqb a h apart) ∙ there
 
 closed_stands : (os : LibOs) (c : Cont) (w : World) (plain : Bool) → FitsFile os w.objects c → is_plain c.bytes ≡ plain →

@@ -1,7 +1,6 @@
 -- The stack's pages are made, and the argument block is written into them.
-use Rattle.std.specs.Prelude.{◌≡◌, ℕ, ◌+◌, ◌*◌, ◌≤◌, List, [], length}
+use Rattle.std.specs.Prelude.{◌≡◌, ◌+◌, ◌≤◌, [], length}
 use Rattle.std.specs.FinMap.{len}
-use Rattle.std.specs.declared.option.Option.TheVariants.{None, Some}
 use Rattle.std.proofs.Common.{refl, sym, ap, ◌∙◌, arith}
 use Rattle.guest_space.specs.Space.{memory_of, with_run}
 use Rattle.guest_space.specs.Access.{with_bytes}
