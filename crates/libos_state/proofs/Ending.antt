@@ -1,10 +1,10 @@
 -- The stages of a process that ends: its handles are closed, and it exits.
 use Rattle.std.specs.Prelude.{◌≡◌, ◌≢◌, ℕ, ◌%◌, ◌==◌, not, true, false, List, [], ◌∷◌, filter, drop, slice_index, is_some}
 use Rattle.std.specs.Ordering.{nat_cmp}
-use Rattle.std.specs.FinMap.{get, empty}
+use Rattle.std.specs.FinMap.{get, empty, insert}
 use Rattle.std.specs.declared.option.Option.{Option}
 use Rattle.std.specs.declared.option.Option.TheVariants.{None, Some}
-use Rattle.std.proofs.Common.{refl, sym, ap, ◌∙◌, eq-eqb, ne_eqb}
+use Rattle.std.proofs.Common.{arith, refl, sym, ap, ◌∙◌, eq-eqb, ne_eqb}
 use Rattle.std.proofs.lemmas.Bool.{cond-true, cond-false, or_parts}
 use Rattle.abi_calls.specs.declared.object.Object.TheVariants.{Process, Thread, Event, Stream}
 use Rattle.abi_calls.specs.declared.reply.Reply.{Reply}
@@ -14,6 +14,7 @@ use Rattle.abi_calls.specs.World.{World, with_objects}
 use Rattle.abi_calls.specs.Processes.{ended, closed, process_exited, without_threads}
 use Rattle.abi_calls.specs.Abi.{Abi}
 use Rattle.abi_calls.specs.Sound.{IsSound}
+use Rattle.abi_calls.proofs.NumberMaps.{get_same}
 use Rattle.abi_calls.proofs.SoundChanges.{without_at}
 use Rattle.mono_model.specs.Starting.{Runs}
 use Rattle.libos_state.specs.declared.cont.Cont.{Cont}
@@ -48,8 +49,10 @@ ending_over os cont o o' c c' event numbers fits keeps = record {
   processes = fits.processes;
   first = fits.first;
   code = fits.code;
+  byte = fits.byte;
   ended = fits.ended;
   kept = numbers ∙ fits.kept;
+  of_process = fits.of_process;
   threads = fits.threads;
   descriptions = fits.descriptions;
   memory = ap (λ x. is_some (running x)) keeps.process_stays ∙ fits.memory;
@@ -145,12 +148,23 @@ module _ (os : LibOs) (c : Cont) (w : World) (fits : FitsEnding os w.objects c) 
   thread_ends : is_thread_of exiting (object_at w.objects fits.upcall.thread) ≡ true
   thread_ends = ap (is_thread_of exiting) fits.object ∙ eq-eqb fits.upcall.process exiting (sym exiting_is)
 
+  -- the code that is asked for is the one that is kept
+  code_asked : number c 0 % 256 ≡ fits.code
+  code_asked = let byte = fits.byte in ap (λ ns. slice_index ns 0 % 256) fits.kept ∙ omega arith
+
+  exited_object : object_at exited_objects fits.process.handle ≡ Some (Process empty (Some fits.code))
+  exited_object =
+      let live = (without_threads w.objects exiting).live in
+      let x : Object = Process empty (Some (number c 0 % 256)) in
+      ap (λ h. get {R = nat_cmp} (insert live exiting x) h) (sym (exiting_is ∙ fits.of_process)) ∙ get_same live exiting x ∙ ap (λ n. Some (Process empty (Some n))) code_asked
+
   exited_over : FitsOver (ends os) exited_objects fits.code
   exited_over = record {
     process = fits.process;
     processes = fits.processes;
     first = fits.first;
     ended = fits.ended;
+    object = exited_object;
     threads = fits.threads;
     descriptions = fits.descriptions;
     ready = ap (filter (λ k. not (is_thread_of exiting (object_at w.objects k)))) fits.ready;

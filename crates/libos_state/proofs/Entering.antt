@@ -1,10 +1,10 @@
 -- The library OS begins to serve a trap: it stands for the machine that has served it.
-use Rattle.std.specs.Prelude.{◌≡◌, ◌≢◌, ℕ, ◌%◌, ◌==◌, Bool, true, false, cond, if◌then◌else◌, [], ◌∷◌, map, bit_and, is_some}
+use Rattle.std.specs.Prelude.{◌≡◌, ◌≢◌, ℕ, ◌%◌, ◌==◌, ◌<◌, Bool, true, false, cond, if◌then◌else◌, [], ◌∷◌, map, bit_and, is_some}
 use Rattle.std.specs.Option.{option_map}
 use Rattle.std.specs.FinMap.{insert, empty}
 use Rattle.std.specs.declared.option.Option.{Option}
 use Rattle.std.specs.declared.option.Option.TheVariants.{None, Some}
-use Rattle.std.proofs.Common.{refl, sym, ap, subst, ◌∙◌, eq-eqb, eqb-true}
+use Rattle.std.proofs.Common.{arith, refl, sym, ap, subst, ◌∙◌, eq-eqb, eqb-true}
 use Rattle.std.proofs.lemmas.Bool.{cond-true, eqb-false}
 use Rattle.abi_calls.specs.declared.object.Object.TheVariants.{Thread}
 use Rattle.abi_calls.specs.declared.threads.Upcall.{Upcall}
@@ -42,6 +42,15 @@ pub record IsWrite (u : Upcall) : Type 0 where
   pub call : u.cause ≡ 8
   pub number : register u.context 17 ≡ WRITE
 
+byte_if : (b : Bool) (x y : ℕ) → x < 256 → y < 256 → (if b then x else y) < 256
+byte_if true x y p q = p
+byte_if false x y p q = q
+
+fault_byte : (cause : ℕ) → fault_code cause < 256
+fault_byte cause =
+    byte_if (cause == 2) 132 (if cause == 3 then 133 else (if cause == 0 then 135 else 139)) (omega arith)
+    (byte_if (cause == 3) 133 (if cause == 0 then 135 else 139) (omega arith) (byte_if (cause == 0) 135 139 (omega arith) (omega arith)))
+
 module _ (os : LibOs) (w : World) (u : Upcall) (fits : FitsServed os w.objects (entered_with u)) where
   abbrev m : Mono
   m = base os w
@@ -72,8 +81,8 @@ module _ (os : LibOs) (w : World) (u : Upcall) (fits : FitsServed os w.objects (
   notes_are code = ap (map (note_ended u.process code)) fits.records.processes
       ∙ ap (λ n. n ∷ []) (cond-true (fits.process.handle == u.process) (note code) fits.process (eq-eqb fits.process.handle u.process (sym at_process)))
 
-  ending_fits : (code : ℕ) → FitsEnding (ending code) w.objects (ending_with code)
-  ending_fits code = record {
+  ending_fits : (code : ℕ) → code < 256 → FitsEnding (ending code) w.objects (ending_with code)
+  ending_fits code byte = record {
     upcall = u;
     event = refl;
     up = fits.up;
@@ -81,8 +90,10 @@ module _ (os : LibOs) (w : World) (u : Upcall) (fits : FitsServed os w.objects (
     processes = notes_are code;
     first = fits.records.first;
     code = code;
+    byte = byte;
     ended = refl;
     kept = refl;
+    of_process = at_process;
     threads = refl;
     descriptions = refl;
     memory = ap (λ h. is_some (running (object_at w.objects h))) at_process ∙ fits.records.memory;
@@ -103,9 +114,9 @@ module _ (os : LibOs) (w : World) (u : Upcall) (fits : FitsServed os w.objects (
       let rs = ap (tids_of []) fits.ready in
       λ i. record m { processes = ps i; threads = empty; descriptions = empty; ready = rs i }
 
-  process_stands : (code : ℕ) → StandsFor (ends_process os u code) w (ended m who.process code)
-  process_stands code = record {
-    fits = closes_fits (ending code) w.objects (ending_with code) (handles_of os) (ending_fits code) fits.records.closable;
+  process_stands : (code : ℕ) → code < 256 → StandsFor (ends_process os u code) w (ended m who.process code)
+  process_stands code byte = record {
+    fits = closes_fits (ending code) w.objects (ending_with code) (handles_of os) (ending_fits code byte) fits.records.closable;
     means = closes_means (ending code) w (ending_with code) (handles_of os) ∙ ap Runs (ending_base code);
   }
 
@@ -166,7 +177,7 @@ module _ (os : LibOs) (w : World) (u : Upcall) (fits : FitsServed os w.objects (
   number = register u.context 17
 
   other_stands : (exits : Bool) → StandsFor (cond exits (ends_process os u (register u.context 10 % 256)) (result_of os u (error ENOSYS))) w (cond exits (exit m who) (finished m who (error ENOSYS)))
-  other_stands true = process_stands (register u.context 10 % 256)
+  other_stands true = process_stands (register u.context 10 % 256) (omega arith)
   other_stands false = result_stands (error ENOSYS)
 
   abbrev other_entered : LibOs
@@ -183,7 +194,7 @@ module _ (os : LibOs) (w : World) (u : Upcall) (fits : FitsServed os w.objects (
   cause_stands : (calls : Bool) → (u.cause == 8) ≡ calls →
       StandsFor (cond calls (call_entered os u number) (ends_process os u (fault_code u.cause))) w (cond calls (system_call m who number) (ended m who.process (fault_code u.cause)))
   cause_stands true is = call_stands (eqb-true u.cause 8 is) (number == WRITE) refl
-  cause_stands false fault = process_stands (fault_code u.cause)
+  cause_stands false fault = process_stands (fault_code u.cause) (fault_byte u.cause)
 
   pub trap_stands : StandsFor (entered os u) w (served m who u.cause)
   trap_stands = cause_stands (u.cause == 8) refl

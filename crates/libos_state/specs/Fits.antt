@@ -71,12 +71,13 @@ pub record FitsIdle (os : LibOs) (o : Objects) : Type 0 where
   pub suspended : o.suspended ≡ []
   pub current : o.current ≡ None
 
--- The process has exited.
+-- The process has exited, and so has its object.
 pub record FitsOver (os : LibOs) (o : Objects) (code : ℕ) : Type 0 where
   pub process : ProcessNote
   pub processes : os.processes ≡ process ∷ []
   pub first : process.pid ≡ 1
   pub ended : process.code ≡ Some code
+  pub object : object_at o process.handle ≡ Some (Process empty (Some code))
   pub threads : os.threads ≡ []
   pub descriptions : os.descriptions ≡ []
   pub ready : o.ready ≡ []
@@ -121,8 +122,10 @@ pub record FitsEnding (os : LibOs) (o : Objects) (c : Cont) : Type 0 where
   pub processes : os.processes ≡ process ∷ []
   pub first : process.pid ≡ 1
   pub code : ℕ
+  pub byte : code < 256
   pub ended : process.code ≡ Some code
   pub kept : c.numbers ≡ code ∷ []
+  pub of_process : upcall.process ≡ process.handle
   pub threads : os.threads ≡ []
   pub descriptions : os.descriptions ≡ []
   pub memory : is_some (running (get {R = nat_cmp} o.live upcall.process)) ≡ true
