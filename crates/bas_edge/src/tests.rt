@@ -1,7 +1,10 @@
 //! That calls succeed with ample memory, and that a chosen call fails: no clause can say the one, and each form shows the other once.
 ghost use Rattle.bas_edge.specs.Files.{HasFile};
 
-use crate::{fetch, ByteSink, ByteSource, CalmShelf, CalmSink, CalmSource, EdgeError, Failed, Fetched, MapShelf, MapStore, Shelf, Sink, Source, Store};
+use crate::{
+    ByteSink, ByteSource, CalmShelf, CalmSink, CalmSource, EdgeError, Failed, Fetched, MapShelf,
+    MapStore, Shelf, Sink, Source, Store, fetch,
+};
 use std::alloc::{AllocError, Global};
 use std::process::Abort;
 use std::test::Fail;
@@ -17,9 +20,13 @@ fn want_taken<S: Source>(rt: &impl Abort, source: &mut S, want: Result<&[u8], Fa
     }
 }
 
-/// Gives once, and stops where another count is answered or the call fails otherwise.
-fn want_given<S: Sink>(rt: &impl Abort, sink: &mut S, piece: &[u8], want: Result<usize, EdgeError>) {
-    assert_eq!(rt; sink.give(piece), want);
+/// Gives once, and stops where another count is answered; `None` wants a fault.
+fn want_given<S: Sink>(rt: &impl Abort, sink: &mut S, piece: &[u8], want: Option<usize>) {
+    match (sink.give(piece), want) {
+        (Ok(count), Some(wanted)) => assert!(rt; count == wanted),
+        (Err(EdgeError::Failed), None) => {}
+        _ => panic!(rt; "another answer of give"),
+    }
 }
 
 #[test]
@@ -39,12 +46,12 @@ fn sources_are_taken_to_their_end(rt: HostRuntime) -> Result<(), Fail> {
 #[test]
 fn sinks_keep_what_they_are_given(rt: HostRuntime) -> Result<(), Fail> {
     let mut calm = CalmSink::new(rt.alloc());
-    want_given(&rt, &mut calm, b"hi", Ok(2));
+    want_given(&rt, &mut calm, b"hi", Some(2));
     assert_eq!(rt; calm.given(), b"hi".as_slice());
     let mut sink = ByteSink::new(rt.alloc(), [2].to_vec(rt.alloc())?);
-    want_given(&rt, &mut sink, b"hi", Ok(2));
-    want_given(&rt, &mut sink, b"!", Err(EdgeError::Failed));
-    want_given(&rt, &mut sink, b"\n", Ok(1));
+    want_given(&rt, &mut sink, b"hi", Some(2));
+    want_given(&rt, &mut sink, b"!", None);
+    want_given(&rt, &mut sink, b"\n", Some(1));
     assert_eq!(rt; sink.faults(), 1);
     assert_eq!(rt; sink.given(), b"hi\n".as_slice());
     Ok(())
@@ -108,8 +115,8 @@ fn first_byte(rt: &impl Abort, store: &mut MapStore) -> Result<u8, EdgeError> {
 #[test]
 fn stores_read_and_write_files(rt: HostRuntime) -> Result<(), Fail> {
     let mut store = store(rt.alloc(), &[])?;
-    assert_eq!(rt; store.length(b"a")?, Some(2));
-    assert_eq!(rt; store.length(b"b")?, None);
+    assert!(rt; store.length(b"a")? == Some(2));
+    assert!(rt; store.length(b"b")? == None);
     assert_eq!(rt; first_byte(&rt, &mut store)?, b'x');
     write(&rt, &mut store, 3, b"!")?;
     want_bytes(&rt, &store, b"a", Some(b"xy\0!".as_slice()));
@@ -135,7 +142,7 @@ fn stores_make_and_name_files(rt: HostRuntime) -> Result<(), Fail> {
 fn the_second_write_fails_and_the_first_stands(rt: HostRuntime) -> Result<(), Fail> {
     let mut store = store(rt.alloc(), &[2])?;
     write(&rt, &mut store, 0, b"1")?;
-    assert_eq!(rt; write(&rt, &mut store, 1, b"2"), Err(EdgeError::Failed));
+    assert!(rt; matches!(write(&rt, &mut store, 1, b"2"), Err(EdgeError::Failed)));
     assert_eq!(rt; store.faults(), 1);
     want_bytes(&rt, &store, b"a", Some(b"1y".as_slice()));
     Ok(())
@@ -144,12 +151,20 @@ fn the_second_write_fails_and_the_first_stands(rt: HostRuntime) -> Result<(), Fa
 /// Shelves' files: `hi.s`, 9 bytes long.
 fn texts(alloc: Global) -> Result<Vec<(String, Vec<u8>)>, AllocError> {
     let mut texts = Vec::new(alloc);
-    texts.push((String::from_str(alloc, "hi.s")?, b"li a0, 1\n".to_vec(alloc)?))?;
+    texts.push((
+        String::from_str(alloc, "hi.s")?,
+        b"li a0, 1\n".to_vec(alloc)?,
+    ))?;
     Ok(texts)
 }
 
 /// Fetches, and stops where the bytes differ.
-fn want_fetched<F: Shelf>(rt: &impl Abort, alloc: Global, shelf: &mut F, want: &[u8]) -> Result<(), EdgeError> {
+fn want_fetched<F: Shelf>(
+    rt: &impl Abort,
+    alloc: Global,
+    shelf: &mut F,
+    want: &[u8],
+) -> Result<(), EdgeError> {
     match fetch(alloc, shelf, "hi.s", 9)? {
         Fetched::Bytes(bytes) => assert_eq!(rt; bytes.as_slice(), want),
         _ => panic!(rt; "no bytes were fetched"),
@@ -170,7 +185,7 @@ fn shelves_are_fetched_from(rt: HostRuntime) -> Result<(), Fail> {
 fn shelves_are_appended_to(rt: HostRuntime) -> Result<(), Fail> {
     let mut shelf = MapShelf::new(rt.alloc(), texts(rt.alloc())?, [2].to_vec(rt.alloc())?)?;
     shelf.append("trace", b"line\n")?;
-    assert_eq!(rt; shelf.append("trace", b"line\n"), Err(EdgeError::Failed));
+    assert!(rt; matches!(shelf.append("trace", b"line\n"), Err(EdgeError::Failed)));
     assert_eq!(rt; shelf.faults(), 1);
     shelf.append("trace", b"more\n")?;
     assert_eq!(rt; shelf.file("trace"), Some(b"line\nmore\n".as_slice()));
