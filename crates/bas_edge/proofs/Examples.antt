@@ -1,7 +1,6 @@
 -- Worked examples of what writing does to a text, and of the calls that fail.
 use Rattle.std.proofs.Common.{◌≡◌, true, false, [], ◌∷◌, refl}
-use Rattle.bas_edge.specs.Failures.{after_call, fails_next}
-use Rattle.bas_edge.specs.declared.failures.Failures.{Failures}
+use Rattle.bas_edge.specs.Failures.{Calls, after_call, fails_next}
 use Rattle.bas_edge.specs.Files.{overwritten, resized}
 
 -- bytes inside a text replace what was there
@@ -24,8 +23,8 @@ fills : resized (1 ∷ 2 ∷ 3 ∷ []) 5 ≡ 1 ∷ 2 ∷ 3 ∷ 0 ∷ 0 ∷ []
 fills = refl
 
 -- of calls that fail at 2 alone, the first succeeds, the second fails, and the third succeeds
-abbrev fails_at_two : Failures
-fails_at_two = record { calls = 0; faults = 0; failing = 2 ∷ [] }
+abbrev fails_at_two : Calls
+fails_at_two = record { made = 0; failed = 0; failing = 2 ∷ [] }
 
 first_call : fails_next fails_at_two ≡ false
 first_call = refl

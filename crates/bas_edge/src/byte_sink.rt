@@ -23,7 +23,7 @@ impl Model for ByteSink {
 
     ghost Value = { Failing (List ℕ) };
 
-    ghost view = { λ sink. record { held = sink.sink; failures = sink.failures } };
+    ghost view = { λ sink. record { held = sink.sink; calls = sink.failures } };
 }
 
 impl ByteSink {
@@ -48,7 +48,7 @@ impl ByteSink {
 impl Sink for ByteSink {
     ghost given = { λ sink. Some sink.held };
 
-    ghost fault_count = { λ sink. sink.failures.faults };
+    ghost fault_count = { λ sink. sink.calls.failed };
 
     /// Gives the whole piece, or none of it.
     fn give(&mut self, piece: &[u8]) -> Result<usize, EdgeError>
@@ -56,13 +56,13 @@ impl Sink for ByteSink {
         ensures all { IfOk result (λ count. count ≡ length piece.now) }
         ensures given { IfOk result (λ count. Gives (Some self.old.held) piece.now count (Some self.new.held)) }
         ensures same { OnErr result (self.new.held ≡ self.old.held) }
-        ensures cause { HasCause EdgeError.Failed self.old.failures.faults self.new.failures.faults result }
+        ensures cause { HasCause EdgeError.Failed self.old.calls.failed self.new.calls.failed result }
     {
         self.failures.count_call()?;
         self.sink.give(piece)
     }
 
     fn faults(&self) -> u64 {
-        self.failures.faults()
+        self.failures.failed()
     }
 }

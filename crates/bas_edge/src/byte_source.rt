@@ -23,7 +23,7 @@ impl Model for ByteSource {
 
     ghost Value = { Failing (List ℕ) };
 
-    ghost view = { λ source. record { held = source.source; failures = source.failures } };
+    ghost view = { λ source. record { held = source.source; calls = source.failures } };
 }
 
 impl ByteSource {
@@ -48,7 +48,7 @@ impl ByteSource {
 impl Source for ByteSource {
     ghost left = { λ source. Some source.held };
 
-    ghost fault_count = { λ source. source.failures.faults };
+    ghost fault_count = { λ source. source.calls.failed };
 
     /// Takes as many bytes as are left and have room, and leaves the buffer behind them as it is.
     fn take(&mut self, buffer: &mut [u8]) -> Result<usize, Failed>
@@ -56,7 +56,7 @@ impl Source for ByteSource {
         ensures all { IfOk result (λ count. count ≡ min (length buffer.old) (length self.old.held)) }
         ensures filled { IfOk result (λ count. buffer.new ≡ take count self.old.held ++ drop count buffer.old) }
         ensures taken { IfOk result (λ count. Takes (Some self.old.held) buffer.old count (Some self.new.held) buffer.new) }
-        ensures cause { HasCause failed self.old.failures.faults self.new.failures.faults result }
+        ensures cause { HasCause failed self.old.calls.failed self.new.calls.failed result }
         ensures same { OnErr result (self.new.held ≡ self.old.held) }
     {
         self.failures.count_call()?;
@@ -64,6 +64,6 @@ impl Source for ByteSource {
     }
 
     fn faults(&self) -> u64 {
-        self.failures.faults()
+        self.failures.failed()
     }
 }

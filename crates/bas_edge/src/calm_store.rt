@@ -1,6 +1,5 @@
-ghost use Rattle.std.specs.Prelude.{◌≡◌, [], Some, length, map, take, drop, option_map, option_copied, IsNone, IfOk, OnOk, OnErr};
-ghost use Rattle.bas_edge.specs.Faults.{HasCause};
-ghost use Rattle.bas_edge.specs.Files.{HasFile, HasNoFile, HasRange, entry_of, file_bytes, file_length, file_of, files_of, overwritten, with_bytes_at, with_file, with_length, with_renamed, without_file};
+ghost use Rattle.std.specs.Prelude.{◌≡◌, Some, map, option_copied, IfOk, OnOk, OnErr};
+ghost use Rattle.bas_edge.specs.Files.{HasFile, entry_of, file_bytes, file_of, files_of, overwritten, with_file, without_file};
 ghost use Rattle.std.specs.FinMap as finite;
 
 use crate::errors::{EdgeError, Memory};

@@ -27,7 +27,6 @@ pub use calm_sink::CalmSink;
 pub use calm_source::CalmSource;
 pub use calm_store::CalmStore;
 pub use errors::{EdgeError, Failed, Memory};
-pub use failures::Failures;
 pub use fetched::{Fetched, fetch};
 pub use map_shelf::MapShelf;
 pub use map_store::MapStore;

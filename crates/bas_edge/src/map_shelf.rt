@@ -25,7 +25,7 @@ impl Model for MapShelf {
 
     ghost coded = { failing_code files_code };
 
-    ghost view = { λ shelf. record { held = shelf.shelf; failures = shelf.failures } };
+    ghost view = { λ shelf. record { held = shelf.shelf; calls = shelf.failures } };
 }
 
 impl MapShelf {
@@ -56,13 +56,13 @@ impl MapShelf {
 impl Shelf for MapShelf {
     ghost files = { λ shelf. Some shelf.held };
 
-    ghost fault_count = { λ shelf. shelf.failures.faults };
+    ghost fault_count = { λ shelf. shelf.calls.failed };
 
     fn length(&mut self, name: &str) -> Result<Option<u64>, EdgeError>
         ensures counted { CountsCall EdgeError.Failed self.old self.new result }
         ensures found { IfOk result (λ length. length ≡ file_length self.old.held name.now) }
         ensures same { self.new.held ≡ self.old.held }
-        ensures cause { HasCause EdgeError.Failed self.old.failures.faults self.new.failures.faults result }
+        ensures cause { HasCause EdgeError.Failed self.old.calls.failed self.new.calls.failed result }
     {
         self.failures.count_call()?;
         self.shelf.length(name)
@@ -73,7 +73,7 @@ impl Shelf for MapShelf {
         ensures counted { CountsCall EdgeError.Failed self.old self.new result }
         ensures read { OnOk result (buffer.new ≡ take (length buffer.old) (drop at (file_bytes self.old.held name.now))) }
         ensures same { self.new.held ≡ self.old.held }
-        ensures cause { HasCause EdgeError.Failed self.old.failures.faults self.new.failures.faults result }
+        ensures cause { HasCause EdgeError.Failed self.old.calls.failed self.new.calls.failed result }
     {
         self.failures.count_call()?;
         self.shelf.read_at(name, at, buffer)
@@ -83,7 +83,7 @@ impl Shelf for MapShelf {
         ensures counted { CountsCall EdgeError.Failed self.old self.new result }
         ensures replaced { OnOk result (self.new.held ≡ with_file name.now bytes.now self.old.held) }
         ensures same { OnErr result (self.new.held ≡ self.old.held) }
-        ensures cause { HasCause EdgeError.Failed self.old.failures.faults self.new.failures.faults result }
+        ensures cause { HasCause EdgeError.Failed self.old.calls.failed self.new.calls.failed result }
     {
         self.failures.count_call()?;
         self.shelf.replace(name, bytes)
@@ -93,13 +93,13 @@ impl Shelf for MapShelf {
         ensures counted { CountsCall EdgeError.Failed self.old self.new result }
         ensures appended { OnOk result (self.new.held ≡ with_bytes_behind name.now bytes.now self.old.held) }
         ensures same { OnErr result (self.new.held ≡ self.old.held) }
-        ensures cause { HasCause EdgeError.Failed self.old.failures.faults self.new.failures.faults result }
+        ensures cause { HasCause EdgeError.Failed self.old.calls.failed self.new.calls.failed result }
     {
         self.failures.count_call()?;
         self.shelf.append(name, bytes)
     }
 
     fn faults(&self) -> u64 {
-        self.failures.faults()
+        self.failures.failed()
     }
 }

@@ -25,7 +25,7 @@ impl Model for MapStore {
 
     ghost coded = { failing_code files_code };
 
-    ghost view = { λ store. record { held = store.store; failures = store.failures } };
+    ghost view = { λ store. record { held = store.store; calls = store.failures } };
 }
 
 impl MapStore {
@@ -56,13 +56,13 @@ impl MapStore {
 impl Store for MapStore {
     ghost files = { λ store. Some store.held };
 
-    ghost fault_count = { λ store. store.failures.faults };
+    ghost fault_count = { λ store. store.calls.failed };
 
     fn length(&mut self, name: &[u8]) -> Result<Option<u64>, EdgeError>
         ensures counted { CountsCall EdgeError.Failed self.old self.new result }
         ensures found { IfOk result (λ length. length ≡ file_length self.old.held name.now) }
         ensures same { self.new.held ≡ self.old.held }
-        ensures cause { HasCause EdgeError.Failed self.old.failures.faults self.new.failures.faults result }
+        ensures cause { HasCause EdgeError.Failed self.old.calls.failed self.new.calls.failed result }
     {
         self.failures.count_call()?;
         self.store.length(name)
@@ -73,7 +73,7 @@ impl Store for MapStore {
         ensures counted { CountsCall EdgeError.Failed self.old self.new result }
         ensures read { OnOk result (buffer.new ≡ take (length buffer.old) (drop at (file_bytes self.old.held name.now))) }
         ensures same { self.new.held ≡ self.old.held }
-        ensures cause { HasCause EdgeError.Failed self.old.failures.faults self.new.failures.faults result }
+        ensures cause { HasCause EdgeError.Failed self.old.calls.failed self.new.calls.failed result }
     {
         self.failures.count_call()?;
         self.store.read_at(name, at, buffer)
@@ -84,7 +84,7 @@ impl Store for MapStore {
         ensures counted { CountsCall EdgeError.Failed self.old self.new result }
         ensures written { OnOk result (self.new.held ≡ with_bytes_at name.now at bytes.now self.old.held) }
         ensures same { OnErr result (self.new.held ≡ self.old.held) }
-        ensures cause { HasCause EdgeError.Failed self.old.failures.faults self.new.failures.faults result }
+        ensures cause { HasCause EdgeError.Failed self.old.calls.failed self.new.calls.failed result }
     {
         self.failures.count_call()?;
         self.store.write_at(name, at, bytes)
@@ -95,7 +95,7 @@ impl Store for MapStore {
         ensures counted { CountsCall EdgeError.Failed self.old self.new result }
         ensures created { OnOk result (self.new.held ≡ with_file name.now [] self.old.held) }
         ensures same { OnErr result (self.new.held ≡ self.old.held) }
-        ensures cause { HasCause EdgeError.Failed self.old.failures.faults self.new.failures.faults result }
+        ensures cause { HasCause EdgeError.Failed self.old.calls.failed self.new.calls.failed result }
     {
         self.failures.count_call()?;
         self.store.create(name)
@@ -106,7 +106,7 @@ impl Store for MapStore {
         ensures counted { CountsCall EdgeError.Failed self.old self.new result }
         ensures removed { OnOk result (self.new.held ≡ without_file name.now self.old.held) }
         ensures same { OnErr result (self.new.held ≡ self.old.held) }
-        ensures cause { HasCause EdgeError.Failed self.old.failures.faults self.new.failures.faults result }
+        ensures cause { HasCause EdgeError.Failed self.old.calls.failed self.new.calls.failed result }
     {
         self.failures.count_call()?;
         self.store.remove(name)
@@ -117,7 +117,7 @@ impl Store for MapStore {
         ensures counted { CountsCall EdgeError.Failed self.old self.new result }
         ensures renamed { OnOk result (self.new.held ≡ with_renamed from.now to.now self.old.held) }
         ensures same { OnErr result (self.new.held ≡ self.old.held) }
-        ensures cause { HasCause EdgeError.Failed self.old.failures.faults self.new.failures.faults result }
+        ensures cause { HasCause EdgeError.Failed self.old.calls.failed self.new.calls.failed result }
     {
         self.failures.count_call()?;
         self.store.rename(from, to)
@@ -128,13 +128,13 @@ impl Store for MapStore {
         ensures counted { CountsCall EdgeError.Failed self.old self.new result }
         ensures resized { OnOk result (self.new.held ≡ with_length name.now length self.old.held) }
         ensures same { OnErr result (self.new.held ≡ self.old.held) }
-        ensures cause { HasCause EdgeError.Failed self.old.failures.faults self.new.failures.faults result }
+        ensures cause { HasCause EdgeError.Failed self.old.calls.failed self.new.calls.failed result }
     {
         self.failures.count_call()?;
         self.store.set_length(name, length)
     }
 
     fn faults(&self) -> u64 {
-        self.failures.faults()
+        self.failures.failed()
     }
 }
