@@ -1,6 +1,7 @@
 -- Tests, unions and maxima over the numbers below n.
-use Rattle.std.proofs.Common.{◌≡◌, ◌⊎◌, ℕ, zero, suc, ◌+◌, ◌<◌, ◌≤◌, max, Bool, true, false, ◌||◌, bit_or, refl, ap, sym, ◌∙◌, inl, inr, ⊎_elim, arith, add-one, subst}
+use Rattle.std.proofs.Common.{◌≡◌, ◌⊎◌, ℕ, zero, suc, ◌+◌, ◌^◌, ◌<◌, ◌≤◌, max, Bool, true, false, ◌||◌, bit_or, refl, ap, sym, ◌∙◌, inl, inr, ⊎_elim, arith, add-one, subst}
 use Rattle.std.proofs.lemmas.Bool.{or_left, or_right, or_parts, or_cases, or_from, cases_order}
+use Rattle.std.proofs.lemmas.Nat.{or_lt, pow_pos}
 use Rattle.elf_loader.specs.Segments.{any_below, union_below, max_below}
 
 pub at_last : (j n : ℕ) → j < suc n → (j ≡ n) ⊎ (j < n)
@@ -82,3 +83,8 @@ max_below-le value bound (suc n) le =
     let front = max_below-le value bound n (λ j below. le j (omega arith)) in
     let last = le n (omega arith) in
     omega arith
+
+pub union_below-lt : (value : ℕ → ℕ) (k n : ℕ) → ((j : ℕ) → value j < 2 ^ k) → union_below value n < 2 ^ k
+unfolding union_below
+union_below-lt value k zero lt = pow_pos k
+union_below-lt value k (suc n) lt = or_lt k (union_below value n) (value n) (union_below-lt value k n lt) (lt n)

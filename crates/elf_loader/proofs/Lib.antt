@@ -1,4 +1,5 @@
 pub mod Below
+pub mod ImageLaws
 pub mod MemoryBytes
 pub mod PageLists
 pub mod Refusals

@@ -2,7 +2,7 @@
 #![tactic(auto)]
 
 ghost use Rattle.std.specs.Prelude.{◌≡◌, IfOk};
-ghost use Rattle.elf_loader.specs.Image.{Tells, loaded};
+ghost use Rattle.elf_loader.specs.Image.{FitsProcess, IsImage, Tells, loaded};
 
 use bas_items::Items;
 use std::alloc::{AllocError, Global};
@@ -115,6 +115,8 @@ impl From<AllocError> for LoadError {
 /// The program of an ELF file, or the first refusal that fits.
 pub fn load(alloc: Global, bytes: &[u8]) -> Result<Program, LoadError>
     ensures exact { Tells result (loaded bytes.now) }
+    ensures image { IfOk result (IsImage bytes.now) }
+    ensures fits { IfOk result FitsProcess }
 {
     let file = ElfFile::open(bytes)?;
     file.check_headers()?;
