@@ -1,9 +1,8 @@
 -- What holds of the program of a file.
-use Rattle.std.proofs.Common.{◌≡◌, ◌≢◌, ◌⊎◌, ℕ, zero, suc, ◌+◌, ◌-◌, ◌*◌, ◌/◌, ◌%◌, ◌^◌, ◌<◌, ◌≤◌, Bool, true, false, cond, ◌&&◌, ◌==◌, not, List, [], ◌∷◌, ◌++◌, Option, Some, None, Ok, filter, length, length-append, sum_by, refl, ap, sym, subst, ◌∙◌, ⊎_elim, inl, inr, arith}
+use Rattle.std.proofs.Common.{◌≡◌, ◌⊎◌, ℕ, zero, suc, ◌+◌, ◌-◌, ◌*◌, ◌/◌, ◌<◌, ◌≤◌, Bool, true, false, ◌&&◌, ◌==◌, List, [], ◌∷◌, ◌++◌, None, Ok, filter, length, length-append, sum_by, refl, ap, sym, subst, ◌∙◌, ⊎_elim, inl, inr, arith}
 use Rattle.std.specs.List.{range_with_len, AllByRecursion}
-use Rattle.std.proofs.lemmas.Bool.{cond-true, cond-false, and_left, and_right, and_from, and_parts, and_cases, cases_Bool, eqb-true, cases_order, cases_lt, both_ways, eq-eqb}
+use Rattle.std.proofs.lemmas.Bool.{and_from, and_parts, cases_Bool, eqb-true, cases_order, cases_lt, both_ways, eq-eqb}
 use Rattle.std.proofs.lemmas.List.FromFn.{length-map-range_with_len}
-use Rattle.elf_loader.specs.declared.Program.{Program}
 use Rattle.elf_loader.specs.declared.Run.{Run}
 use Rattle.elf_loader.specs.Fields.{e_entry, e_phnum, program_header}
 use Rattle.elf_loader.specs.Segments.{is_touched, touches, page_rights, end_page, byte_of}
@@ -46,7 +45,7 @@ module _ (file : List ℕ) where
         some = omega arith;
         touched = λ q above below. let e : page ≡ q = omega arith in subst (λ x. is_touched file x ≡ true) e touched;
         rights = λ q above below. let e : q ≡ page = omega arith in ap (page_rights file) e;
-        bytes = ap (page_bytes file page) (sym count)
+        bytes = ap (page_bytes file page) (sym count);
       }
 
   module _ (page : ℕ) (touched : is_touched file page ≡ true) (run : Run) (is : IsRun file run) (next : run.page ≡ page + 1) (same : run.rights ≡ page_rights file page) where
@@ -68,18 +67,18 @@ module _ (file : List ℕ) where
         record {
           some = omega arith;
           touched = λ q above below.
-            ⊎_elim
-            (λ (l : q < run.page). let e : page ≡ q = omega arith in subst (λ x. is_touched file x ≡ true) e touched)
-            (λ (l : run.page ≤ q). is.touched q l (omega arith))
-            (cases_lt q run.page);
+              ⊎_elim
+              (λ (l : q < run.page). let e : page ≡ q = omega arith in subst (λ x. is_touched file x ≡ true) e touched)
+              (λ (l : run.page ≤ q). is.touched q l (omega arith))
+              (cases_lt q run.page);
           rights = λ q above below.
-            ⊎_elim
-            (λ (l : q < run.page). let e : q ≡ page = omega arith in ap (page_rights file) e ∙ sym same)
-            (λ (l : run.page ≤ q). is.rights q l (omega arith))
-            (cases_lt q run.page);
+              ⊎_elim
+              (λ (l : q < run.page). let e : q ≡ page = omega arith in ap (page_rights file) e ∙ sym same)
+              (λ (l : run.page ≤ q). is.rights q l (omega arith))
+              (cases_lt q run.page);
           bytes =
-            ap (λ bytes. page_bytes file page 1 ++ bytes) (is.bytes ∙ ap (λ q. page_bytes file q (page_count run)) next)
-            ∙ (page_bytes-append file page 1 (page_count run) ∙ ap (page_bytes file page) (sym count))
+              ap (λ bytes. page_bytes file page 1 ++ bytes) (is.bytes ∙ ap (λ q. page_bytes file q (page_count run)) next)
+              ∙ (page_bytes-append file page 1 (page_count run) ∙ ap (page_bytes file page) (sym count));
         }
 
   -- Lists of runs
@@ -118,29 +117,30 @@ module _ (file : List ℕ) where
       let above = are.starts in
       ⊎_elim
       (λ (one : (run.page == page + 1 && run.rights == page_rights file page) ≡ true).
-        let parts = and_parts (run.page == page + 1) (run.rights == page_rights file page) one in
-        let next : run.page ≡ page + 1 = eqb-true run.page (page + 1) parts.0 in
-        let same : run.rights ≡ page_rights file page = eqb-true run.rights (page_rights file page) parts.1 in
-        let count = page_count-grown page touched run are.each.0 next same in
-        rw one
-        (record {
-          each = (IsRun-grown page touched run are.each.0 next same, are.each.1);
-          maximal = AreMaximal-grown run (grown page touched run are.each.0 next same) runs (omega arith) refl are.maximal;
-          starts = omega arith
-        }))
+      let parts = and_parts (run.page == page + 1) (run.rights == page_rights file page) one in
+      let next : run.page ≡ page + 1 = eqb-true run.page (page + 1) parts.0 in
+      let same : run.rights ≡ page_rights file page = eqb-true run.rights (page_rights file page) parts.1 in
+      let count = page_count-grown page touched run are.each.0 next same in
+      rw one
+      (record {
+        each = (IsRun-grown page touched run are.each.0 next same, are.each.1);
+        maximal = AreMaximal-grown run (grown page touched run are.each.0 next same) runs (omega arith) refl are.maximal;
+        starts = omega arith;
+      }))
       (λ (two : (run.page == page + 1 && run.rights == page_rights file page) ≡ false).
-        let count = page_count-one page in
-        rw two
-        (record {
-          each = (IsRun-one page touched, are.each);
-          maximal =
-            (omega arith,
-              (λ ends. λ same.
-                both_ways _ two
-                (and_from (run.page == page + 1) (run.rights == page_rights file page) (eq-eqb run.page (page + 1) (omega arith)) (eq-eqb run.rights (page_rights file page) (sym same)))),
-              are.maximal);
-          starts = omega arith
-        }))
+      let count = page_count-one page in
+      rw two
+      (record {
+        each = (IsRun-one page touched, are.each);
+        maximal = (
+          omega arith,
+          (λ ends. λ same.
+              both_ways _ two
+              (and_from (run.page == page + 1) (run.rights == page_rights file page) (eq-eqb run.page (page + 1) (omega arith)) (eq-eqb run.rights (page_rights file page) (sym same)))),
+          are.maximal,
+        );
+        starts = omega arith;
+      }))
       (cases_Bool (run.page == page + 1 && run.rights == page_rights file page))
 
   HasPage-with_page : (page q : ℕ) (runs : List Run) → is_touched file page ≡ true → AreRuns (page + 1) runs → (page ≡ q) ⊎ HasPage runs q → HasPage (with_page file page runs) q
@@ -151,18 +151,18 @@ module _ (file : List ℕ) where
   HasPage-with_page page q (run ∷ runs) touched are has =
       ⊎_elim
       (λ (one : (run.page == page + 1 && run.rights == page_rights file page) ≡ true).
-        let parts = and_parts (run.page == page + 1) (run.rights == page_rights file page) one in
-        let next : run.page ≡ page + 1 = eqb-true run.page (page + 1) parts.0 in
-        let same : run.rights ≡ page_rights file page = eqb-true run.rights (page_rights file page) parts.1 in
-        let count = page_count-grown page touched run are.each.0 next same in
-        rw one
-        (⊎_elim
-        (λ (e : page ≡ q). inl (omega arith, omega arith))
-        (λ h. ⊎_elim (λ (within : (run.page ≤ q) × (q < run_end run)). inl (omega (arith, within.0), omega (arith, within.1))) (λ rest. inr rest) h)
-        has))
+      let parts = and_parts (run.page == page + 1) (run.rights == page_rights file page) one in
+      let next : run.page ≡ page + 1 = eqb-true run.page (page + 1) parts.0 in
+      let same : run.rights ≡ page_rights file page = eqb-true run.rights (page_rights file page) parts.1 in
+      let count = page_count-grown page touched run are.each.0 next same in
+      rw one
+      (⊎_elim
+      (λ (e : page ≡ q). inl (omega arith, omega arith))
+      (λ h. ⊎_elim (λ (within : (run.page ≤ q) × (q < run_end run)). inl (omega (arith, within.0), omega (arith, within.1))) (λ rest. inr rest) h)
+      has))
       (λ (two : (run.page == page + 1 && run.rights == page_rights file page) ≡ false).
-        let count = page_count-one page in
-        rw two (⊎_elim (λ (e : page ≡ q). inl (omega arith, omega arith)) (λ h. inr h) has))
+      let count = page_count-one page in
+      rw two (⊎_elim (λ (e : page ≡ q). inl (omega arith, omega arith)) (λ h. inr h) has))
       (cases_Bool (run.page == page + 1 && run.rights == page_rights file page))
 
   total-with_page : (page : ℕ) (runs : List Run) → is_touched file page ≡ true → AreRuns (page + 1) runs → sum_by page_count (with_page file page runs) ≡ 1 + sum_by page_count runs
@@ -171,16 +171,16 @@ module _ (file : List ℕ) where
   total-with_page page (run ∷ runs) touched are =
       ⊎_elim
       (λ (one : (run.page == page + 1 && run.rights == page_rights file page) ≡ true).
-        let parts = and_parts (run.page == page + 1) (run.rights == page_rights file page) one in
-        let next : run.page ≡ page + 1 = eqb-true run.page (page + 1) parts.0 in
-        let same : run.rights ≡ page_rights file page = eqb-true run.rights (page_rights file page) parts.1 in
-        let count = page_count-grown page touched run are.each.0 next same in
-        rw one
-        (let cons = sum_by-cons page_count run runs in
-        sum_by-cons page_count (grown page touched run are.each.0 next same) runs ∙ omega arith))
+      let parts = and_parts (run.page == page + 1) (run.rights == page_rights file page) one in
+      let next : run.page ≡ page + 1 = eqb-true run.page (page + 1) parts.0 in
+      let same : run.rights ≡ page_rights file page = eqb-true run.rights (page_rights file page) parts.1 in
+      let count = page_count-grown page touched run are.each.0 next same in
+      rw one
+      (let cons = sum_by-cons page_count run runs in
+      sum_by-cons page_count (grown page touched run are.each.0 next same) runs ∙ omega arith))
       (λ (two : (run.page == page + 1 && run.rights == page_rights file page) ≡ false).
-        let count = page_count-one page in
-        rw two (sum_by-cons page_count (one_page page) (run ∷ runs) ∙ omega arith))
+      let count = page_count-one page in
+      rw two (sum_by-cons page_count (one_page page) (run ∷ runs) ∙ omega arith))
       (cases_Bool (run.page == page + 1 && run.rights == page_rights file page))
 
   AreRuns-touched : (n page : ℕ) → AreRuns page (runs_of file (touched_from page n))
@@ -191,12 +191,12 @@ module _ (file : List ℕ) where
       ⊎_elim
       (λ (here : is_touched file page ≡ true). rw here (AreRuns-with_page page (runs_of file (touched_from (page + 1) n)) here rest))
       (λ (other : is_touched file page ≡ false).
-        rw other
-        (record {
-          each = rest.each;
-          maximal = rest.maximal;
-          starts = StartsFrom-less page (page + 1) (runs_of file (touched_from (page + 1) n)) (omega arith) rest.starts
-        }))
+      rw other
+      (record {
+        each = rest.each;
+        maximal = rest.maximal;
+        starts = StartsFrom-less page (page + 1) (runs_of file (touched_from (page + 1) n)) (omega arith) rest.starts;
+      }))
       (cases_Bool (is_touched file page))
 
   HasPage-touched : (n page q : ℕ) → page ≤ q → q < page + n → is_touched file q ≡ true → HasPage (runs_of file (touched_from page n)) q
@@ -206,18 +206,18 @@ module _ (file : List ℕ) where
       let rest = AreRuns-touched n (page + 1) in
       ⊎_elim
       (λ (here : is_touched file page ≡ true).
-        rw here
-        (HasPage-with_page page q (runs_of file (touched_from (page + 1) n)) here rest
-        (⊎_elim
-        (λ (e : page ≡ q). inl e)
-        (λ o. ⊎_elim (λ (l : page < q). inr (HasPage-touched n (page + 1) q (omega arith) (omega arith) touched)) (λ (l : q < page). absurd (omega arith)) o)
-        (cases_order page q))))
+      rw here
+      (HasPage-with_page page q (runs_of file (touched_from (page + 1) n)) here rest
+      (⊎_elim
+      (λ (e : page ≡ q). inl e)
+      (λ o. ⊎_elim (λ (l : page < q). inr (HasPage-touched n (page + 1) q (omega arith) (omega arith) touched)) (λ (l : q < page). absurd (omega arith)) o)
+      (cases_order page q))))
       (λ (other : is_touched file page ≡ false).
-        rw other
-        (⊎_elim
-        (λ (e : page ≡ q). absurd (both_ways _ (subst (λ x. is_touched file x ≡ false) e other) touched))
-        (λ o. ⊎_elim (λ (l : page < q). HasPage-touched n (page + 1) q (omega arith) (omega arith) touched) (λ (l : q < page). absurd (omega arith)) o)
-        (cases_order page q)))
+      rw other
+      (⊎_elim
+      (λ (e : page ≡ q). absurd (both_ways _ (subst (λ x. is_touched file x ≡ false) e other) touched))
+      (λ o. ⊎_elim (λ (l : page < q). HasPage-touched n (page + 1) q (omega arith) (omega arith) touched) (λ (l : q < page). absurd (omega arith)) o)
+      (cases_order page q)))
       (cases_Bool (is_touched file page))
 
   total-touched : (n page : ℕ) → sum_by page_count (runs_of file (touched_from page n)) ≡ length (touched_from page n)
@@ -227,7 +227,7 @@ module _ (file : List ℕ) where
       let rest = total-touched n (page + 1) in
       ⊎_elim
       (λ (here : is_touched file page ≡ true).
-        rw here (total-with_page page (runs_of file (touched_from (page + 1) n)) here (AreRuns-touched n (page + 1)) ∙ omega arith))
+      rw here (total-with_page page (runs_of file (touched_from (page + 1) n)) here (AreRuns-touched n (page + 1)) ∙ omega arith))
       (λ (other : is_touched file page ≡ false). rw other rest)
       (cases_Bool (is_touched file page))
 
@@ -242,7 +242,7 @@ module _ (file : List ℕ) where
         maximal = are.maximal;
         complete = λ page touched. let below = is_touched-below_end file page touched in HasPage-touched (end_page file) 0 page (omega arith) (omega arith) touched;
         entry = refl;
-        end = refl
+        end = refl;
       }
 
   module _ (sound : header_refusals file (e_phnum file) ≡ None) where
@@ -269,7 +269,7 @@ module _ (file : List ℕ) where
           below = omega arith;
           some = is.some;
           whole = length-run run is;
-          rights = omega arith
+          rights = omega arith;
         }
 
     each_of_process : (runs : List Run) → AllByRecursion (IsRun file) runs → AllByRecursion IsRunOfProcess runs
@@ -286,5 +286,5 @@ module _ (file : List ℕ) where
           runs = each_of_process (runs_of file (touched_from 0 (end_page file))) are.each;
           rising = are.maximal;
           few = let few = parts.0 in omega arith;
-          entry = parts.1
+          entry = parts.1;
         }

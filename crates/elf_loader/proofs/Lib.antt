@@ -1,4 +1,5 @@
 pub mod Below
+mod Examples
 pub mod ImageLaws
 pub mod MemoryBytes
 pub mod PageLists

@@ -4,18 +4,20 @@
 ghost use Rattle.std.specs.Prelude.{◌≡◌, IfOk};
 ghost use Rattle.elf_loader.specs.Image.{FitsProcess, IsImage, Tells, loaded};
 
+use crate::file::ElfFile;
+use crate::header::PAGE_SIZE;
 use bas_items::Items;
 use std::alloc::{AllocError, Global};
 use thiserror::Error;
-
-use crate::file::ElfFile;
-use crate::header::PAGE_SIZE;
 
 mod check;
 mod file;
 mod header;
 mod image;
+mod laws;
 mod pages;
+
+pub use laws::{bytes_of_segments, one_image, rights_of_segments};
 
 /// What a program asks for in memory.
 #[derive(Debug, Drop)]
@@ -129,3 +131,6 @@ pub fn load(alloc: Global, bytes: &[u8]) -> Result<Program, LoadError>
         end: PAGE_SIZE * end,
     })
 }
+
+#[cfg(test)]
+mod tests;

@@ -1,5 +1,4 @@
-use Rattle.std.proofs.Common.{◌≡◌, ℕ, ◌*◌, ◌≤◌, Ok, List, Result, ap, sym, subst, ◌∙◌, arith}
-use Rattle.elf_loader.specs.declared.Program.{Program}
+use Rattle.std.proofs.Common.{◌*◌, Ok, ap, sym, subst, ◌∙◌, arith}
 use Rattle.elf_loader.specs.Refusal.{file_refusal}
 use Rattle.elf_loader.specs.Image.{loaded, IsImage, FitsProcess}
 use Rattle.elf_loader.proofs.Refusals.{end_page-small}
