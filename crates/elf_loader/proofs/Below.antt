@@ -1,6 +1,9 @@
 -- Tests, unions and maxima over the numbers below n.
-use Rattle.std.proofs.Common.{◌≡◌, ◌⊎◌, ℕ, zero, suc, ◌+◌, ◌<◌, ◌≤◌, max, Bool, true, false, ◌||◌, bit_or, refl, ap, sym, ◌∙◌, inl, inr, ⊎_elim, arith, add-one, subst}
-use Rattle.std.proofs.lemmas.Bool.{or_left, or_right, or_parts, or_cases, or_from, cases_order}
+use Rattle.std.proofs.Common.{◌≡◌, ◌⊎◌, ℕ, zero, suc, ◌+◌, ◌^◌, ◌<◌, ◌≤◌, max, Bool, true, false, ◌||◌, bit_or, refl, ap, sym, ◌∙◌, inl, inr, ⊎_elim, arith, add-one, subst}
+use Rattle.std.proofs.lemmas.Bool.{or_left, or_right, or_parts, or_cases, or_from, cases_order, cases_eq}
+use Rattle.std.specs.Int.{bit_at}
+use Rattle.std.proofs.lemmas.Nat.{or_lt, pow_pos}
+use Rattle.std.proofs.lemmas.Nat.Bits.{bit_at-zero, bit_at-lt, bit_at_or}
 use Rattle.elf_loader.specs.Segments.{any_below, union_below, max_below}
 
 pub at_last : (j n : ℕ) → j < suc n → (j ≡ n) ⊎ (j < n)
@@ -82,3 +85,35 @@ max_below-le value bound (suc n) le =
     let front = max_below-le value bound n (λ j below. le j (omega arith)) in
     let last = le n (omega arith) in
     omega arith
+
+pub union_below-lt : (value : ℕ → ℕ) (k n : ℕ) → ((j : ℕ) → value j < 2 ^ k) → union_below value n < 2 ^ k
+unfolding union_below
+union_below-lt value k zero lt = pow_pos k
+union_below-lt value k (suc n) lt = or_lt k (union_below value n) (value n) (union_below-lt value k n lt) (lt n)
+
+-- a bit of a union is that of a part
+pub union_below-from : (value : ℕ → ℕ) (k n j : ℕ) → j < n → bit_at (value j) k ≡ 1 → bit_at (union_below value n) k ≡ 1
+unfolding union_below
+union_below-from value k zero j below has = absurd (omega arith)
+union_below-from value k (suc n) j below has =
+    let front = bit_at-lt (union_below value n) k in
+    let back = bit_at-lt (value n) k in
+    bit_at_or (union_below value n) (value n) k
+    ∙ ⊎_elim
+    (λ (e : j ≡ n). let here = subst (λ i. bit_at (value i) k ≡ 1) e has in omega arith)
+    (λ (l : j < n). let rest = union_below-from value k n j l has in omega arith)
+    (at_last j n below)
+
+pub union_below-has : (value : ℕ → ℕ) (k n : ℕ) → bit_at (union_below value n) k ≡ 1 → (j : ℕ) × (j < n) × (bit_at (value j) k ≡ 1)
+unfolding union_below
+union_below-has value k zero has = let none = bit_at-zero k in absurd (omega arith)
+union_below-has value k (suc n) has =
+    let both = bit_at_or (union_below value n) (value n) k in
+    let back = bit_at-lt (value n) k in
+    ⊎_elim
+    (λ (front : bit_at (union_below value n) k ≡ 1). let found = union_below-has value k n front in (found.0, (let l = found.1 in omega arith), found.2))
+    (λ (other : bit_at (union_below value n) k ≡ 1 → ⊥). (n, omega arith, last_bit (bit_at (union_below value n) k) (bit_at (value n) k) (bit_at-lt (union_below value n) k) back other (sym both ∙ has)))
+    (cases_eq (bit_at (union_below value n) k) 1)
+  where
+    last_bit : (a b : ℕ) → a < 2 → b < 2 → (a ≡ 1 → ⊥) → max a b ≡ 1 → b ≡ 1
+    last_bit a b x y other e = omega arith

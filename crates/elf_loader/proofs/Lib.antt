@@ -1,4 +1,6 @@
 pub mod Below
+mod Examples
+pub mod ImageLaws
 pub mod MemoryBytes
 pub mod PageLists
 pub mod Refusals

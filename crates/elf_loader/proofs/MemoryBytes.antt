@@ -1,13 +1,14 @@
 -- The bytes of memory: of one segment more, and what a copy from the file leaves.
-use Rattle.std.proofs.Common.{◌≡◌, ℕ, zero, suc, ◌+◌, ◌-◌, ◌*◌, ◌<◌, ◌≤◌, min, max, Bool, true, false, cond, ◌&&◌, leb, ltb, List, [], ◌∷◌, ◌++◌, map, replicate, length, take, drop, get_or, refl, ap, ap₂, sym, subst, ◌∙◌, ⊎_elim, arith, add-one, length-take, length-drop}
+use Rattle.std.proofs.Common.{◌≡◌, ℕ, zero, suc, ◌+◌, ◌-◌, ◌<◌, ◌≤◌, min, max, true, false, cond, leb, ltb, List, [], ◌∷◌, map, replicate, length, take, drop, get_or, refl, ap, ap₂, sym, subst, ◌∙◌, ⊎_elim, arith, add-one, length-drop}
 use Rattle.std.specs.List.{range_with_len}
-use Rattle.std.proofs.lemmas.Bool.{cond-true, cond-false, and_left, and_right, and_from, and_parts, and_cases, cases_Bool, cases_lt, le-leb, lt-leb, leb-true, leb-false, lt-ltb, le-ltb, ltb-true, ltb-false, false_from_ne_true, both_ways}
-use Rattle.std.proofs.lemmas.List.{get_or_append_left, get_or-append_right, get_or-take, get_or-drop, length-take-le, ext_get_or, get_or_past}
+use Rattle.std.proofs.lemmas.Bool.{cond-true, cond-false, and_left, and_right, and_from, and_parts, cases_lt, le-leb, lt-leb, leb-true, lt-ltb, le-ltb, ltb-true, false_from_ne_true, both_ways}
+use Rattle.std.proofs.lemmas.List.{get_or_append_left, get_or-append_right, get_or-take, get_or-drop, length-take-le, ext_get_or}
 use Rattle.std.proofs.lemmas.List.FromFn.{length-map-range_with_len, get_or-map-range_with_len}
 use borrow.Rule.Slice.PartMut.{put_mid}
+use Rattle.elf_loader.proofs.Below.{at_last}
 use Rattle.elf_loader.specs.declared.header.ProgramHeader.{ProgramHeader}
-use Rattle.elf_loader.specs.Fields.{e_phnum, program_header}
-use Rattle.elf_loader.specs.Segments.{any_below, is_segment, memory_end, meets, covers, holds_file_byte, segment_byte, byte_below, IsPlaced}
+use Rattle.elf_loader.specs.Fields.{program_header}
+use Rattle.elf_loader.specs.Segments.{is_segment, memory_end, meets, covers, holds_file_byte, segment_byte, byte_below, IsPlaced}
 
 -- An element of a list of which a part was overwritten
 
@@ -49,24 +50,24 @@ module _ (file memory part : List ℕ) (h : ProgramHeader) (placed : IsPlaced fi
       let inside : at + len ≤ length memory = omega arith in
       ⊎_elim
       (λ (l : k < at).
-        get_or-put_mid_before at len memory part inside whole_part k l
-        ∙ sym (cond-false (holds_file_byte h (start + k)) _ _ (and_left _ _ (lt-leb h.p_vaddr (start + k) (omega arith)))))
+      get_or-put_mid_before at len memory part inside whole_part k l
+      ∙ sym (cond-false (holds_file_byte h (start + k)) _ _ (and_left _ _ (lt-leb h.p_vaddr (start + k) (omega arith)))))
       (λ (l : at ≤ k).
-        ⊎_elim
-        (λ (m : k < at + len).
-          get_or-put_mid_inside at len memory part inside whole_part k l m
-          ∙ (ap (λ p. get_or p (k - at) 0) copied
-          ∙ (get_or-take len (drop (h.p_offset + (from - h.p_vaddr)) file) (k - at) 0 (omega arith)
-          ∙ (get_or-drop (h.p_offset + (from - h.p_vaddr)) file (k - at) 0
-          ∙ (ap (λ n. get_or file n 0) (omega arith)
-          ∙ sym (cond-true (holds_file_byte h (start + k)) _ _ (and_from _ _ (le-leb h.p_vaddr (start + k) (omega arith)) (lt-ltb (start + k) (h.p_vaddr + h.p_filesz) (omega arith)))))))))
-        (λ (m : at + len ≤ k).
-          get_or-put_mid_behind at len memory part inside whole_part k m
-          ∙ sym (cond-false (holds_file_byte h (start + k)) _ _ (and_right _ _ (le-ltb (start + k) (h.p_vaddr + h.p_filesz) (omega arith)))))
-        (cases_lt k (at + len)))
+      ⊎_elim
+      (λ (m : k < at + len).
+      get_or-put_mid_inside at len memory part inside whole_part k l m
+      ∙ (ap (λ p. get_or p (k - at) 0) copied
+      ∙ (get_or-take len (drop (h.p_offset + (from - h.p_vaddr)) file) (k - at) 0 (omega arith)
+      ∙ (get_or-drop (h.p_offset + (from - h.p_vaddr)) file (k - at) 0
+      ∙ (ap (λ n. get_or file n 0) (omega arith)
+      ∙ sym (cond-true (holds_file_byte h (start + k)) _ _ (and_from _ _ (le-leb h.p_vaddr (start + k) (omega arith)) (lt-ltb (start + k) (h.p_vaddr + h.p_filesz) (omega arith)))))))))
+      (λ (m : at + len ≤ k).
+      get_or-put_mid_behind at len memory part inside whole_part k m
+      ∙ sym (cond-false (holds_file_byte h (start + k)) _ _ (and_right _ _ (le-ltb (start + k) (h.p_vaddr + h.p_filesz) (omega arith)))))
+      (cases_lt k (at + len)))
       (cases_lt k at)
-
   -- nothing of the file falls into the memory
+
 pub holds_file_byte-none : (h : ProgramHeader) (start size k : ℕ) → min (start + size) (h.p_vaddr + h.p_filesz) ≤ max start h.p_vaddr → k < size → holds_file_byte h (start + k) ≡ false
 holds_file_byte-none h start size k none within =
     ⊎_elim
@@ -88,7 +89,7 @@ module _ (file : List ℕ) where
       rw (none n (omega arith)) (byte_below-uncovered address n (λ j below. none j (omega arith)))
 
   -- segments that have no address in common don't cover one together
-  covers-apart : (address : ℕ) (h other : ProgramHeader) → meets h other ≡ false → covers h address ≡ true → covers other address ≡ false
+  pub covers-apart : (address : ℕ) (h other : ProgramHeader) → meets h other ≡ false → covers h address ≡ true → covers other address ≡ false
   unfolding meets covers
   covers-apart address h other apart covered =
       let mine = and_parts (is_segment h) _ covered in
@@ -96,16 +97,16 @@ module _ (file : List ℕ) where
       let above : h.p_vaddr ≤ address = leb-true h.p_vaddr address bounds.0 in
       let below : address < memory_end h = ltb-true address (memory_end h) bounds.1 in
       false_from_ne_true _ (λ yours.
-        let theirs = and_parts (is_segment other) _ yours in
-        let limits = and_parts (leb other.p_vaddr address) (ltb address (memory_end other)) theirs.1 in
-        let above' : other.p_vaddr ≤ address = leb-true other.p_vaddr address limits.0 in
-        let below' : address < memory_end other = ltb-true address (memory_end other) limits.1 in
-        both_ways _ apart
-        (and_from (is_segment h) _ mine.0
-        (and_from (is_segment other) _ theirs.0
-        (and_from (ltb h.p_vaddr (memory_end other)) (ltb other.p_vaddr (memory_end h))
-        (lt-ltb h.p_vaddr (memory_end other) (omega arith))
-        (lt-ltb other.p_vaddr (memory_end h) (omega arith))))))
+      let theirs = and_parts (is_segment other) _ yours in
+      let limits = and_parts (leb other.p_vaddr address) (ltb address (memory_end other)) theirs.1 in
+      let above' : other.p_vaddr ≤ address = leb-true other.p_vaddr address limits.0 in
+      let below' : address < memory_end other = ltb-true address (memory_end other) limits.1 in
+      both_ways _ apart
+      (and_from (is_segment h) _ mine.0
+      (and_from (is_segment other) _ theirs.0
+      (and_from (ltb h.p_vaddr (memory_end other)) (ltb other.p_vaddr (memory_end h))
+      (lt-ltb h.p_vaddr (memory_end other) (omega arith))
+      (lt-ltb other.p_vaddr (memory_end h) (omega arith))))))
 
   -- what the file has of a segment, over what the segments before it leave
   pub byte_below-copied : (address i : ℕ) → is_segment (program_header file i) ≡ true → IsPlaced file (program_header file i) → ((j : ℕ) → j < i → meets (program_header file i) (program_header file j) ≡ false) → byte_below file address (i + 1) ≡ cond (holds_file_byte (program_header file i) address) (get_or file ((program_header file i).p_offset + (address - (program_header file i).p_vaddr)) 0) (byte_below file address i)
@@ -116,36 +117,50 @@ module _ (file : List ℕ) where
       let old = byte_below file address i in
       byte_below-more address i
       ∙ ⊎_elim
-        (λ (l : address < h.p_vaddr).
-          cond-false (covers h address) _ _ (and_right (is_segment h) _ (and_left _ _ (lt-leb h.p_vaddr address l)))
-          ∙ sym (cond-false (holds_file_byte h address) byte old (and_left _ _ (lt-leb h.p_vaddr address l))))
-        (λ (l : h.p_vaddr ≤ address).
-          ⊎_elim
-          (λ (m : address < memory_end h).
-            let covered : covers h address ≡ true =
-                and_from (is_segment h) _ segment (and_from _ _ (le-leb h.p_vaddr address l) (lt-ltb address (memory_end h) m)) in
-            let clear : old ≡ 0 = byte_below-uncovered address i (λ j below. covers-apart address h (program_header file j) (apart j below) covered) in
-            cond-true (covers h address) (segment_byte file h address) old covered
-            ∙ ⊎_elim
-              (λ (n : address - h.p_vaddr < h.p_filesz).
-                cond-true (ltb (address - h.p_vaddr) h.p_filesz) byte 0 (lt-ltb (address - h.p_vaddr) h.p_filesz n)
-                ∙ sym (cond-true (holds_file_byte h address) byte old (and_from _ _ (le-leb h.p_vaddr address l) (lt-ltb address (h.p_vaddr + h.p_filesz) (omega arith)))))
-              (λ (n : h.p_filesz ≤ address - h.p_vaddr).
-                cond-false (ltb (address - h.p_vaddr) h.p_filesz) byte 0 (le-ltb (address - h.p_vaddr) h.p_filesz n)
-                ∙ (sym clear
-                ∙ sym (cond-false (holds_file_byte h address) byte old (and_right _ _ (le-ltb address (h.p_vaddr + h.p_filesz) (omega arith))))))
-              (cases_lt (address - h.p_vaddr) h.p_filesz))
-          (λ (m : memory_end h ≤ address).
-            let short = placed.fits in
-            cond-false (covers h address) _ _ (and_right (is_segment h) _ (and_right _ _ (le-ltb address (memory_end h) m)))
-            ∙ sym (cond-false (holds_file_byte h address) byte old (and_right _ _ (le-ltb address (h.p_vaddr + h.p_filesz) (omega arith)))))
-          (cases_lt address (memory_end h)))
-        (cases_lt address h.p_vaddr)
+      (λ (l : address < h.p_vaddr).
+      cond-false (covers h address) _ _ (and_right (is_segment h) _ (and_left _ _ (lt-leb h.p_vaddr address l)))
+      ∙ sym (cond-false (holds_file_byte h address) byte old (and_left _ _ (lt-leb h.p_vaddr address l))))
+      (λ (l : h.p_vaddr ≤ address).
+      ⊎_elim
+      (λ (m : address < memory_end h).
+      let covered : covers h address ≡ true =
+      and_from (is_segment h) _ segment (and_from _ _ (le-leb h.p_vaddr address l) (lt-ltb address (memory_end h) m)) in
+      let clear : old ≡ 0 = byte_below-uncovered address i (λ j below. covers-apart address h (program_header file j) (apart j below) covered) in
+      cond-true (covers h address) (segment_byte file h address) old covered
+      ∙ ⊎_elim
+      (λ (n : address - h.p_vaddr < h.p_filesz).
+      cond-true (ltb (address - h.p_vaddr) h.p_filesz) byte 0 (lt-ltb (address - h.p_vaddr) h.p_filesz n)
+      ∙ sym (cond-true (holds_file_byte h address) byte old (and_from _ _ (le-leb h.p_vaddr address l) (lt-ltb address (h.p_vaddr + h.p_filesz) (omega arith)))))
+      (λ (n : h.p_filesz ≤ address - h.p_vaddr).
+      cond-false (ltb (address - h.p_vaddr) h.p_filesz) byte 0 (le-ltb (address - h.p_vaddr) h.p_filesz n)
+      ∙ (sym clear
+      ∙ sym (cond-false (holds_file_byte h address) byte old (and_right _ _ (le-ltb address (h.p_vaddr + h.p_filesz) (omega arith))))))
+      (cases_lt (address - h.p_vaddr) h.p_filesz))
+      (λ (m : memory_end h ≤ address).
+      let short = placed.fits in
+      cond-false (covers h address) _ _ (and_right (is_segment h) _ (and_right _ _ (le-ltb address (memory_end h) m)))
+      ∙ sym (cond-false (holds_file_byte h address) byte old (and_right _ _ (le-ltb address (h.p_vaddr + h.p_filesz) (omega arith)))))
+      (cases_lt address (memory_end h)))
+      (cases_lt address h.p_vaddr)
 
   pub byte_below-no_segment : (address i : ℕ) → is_segment (program_header file i) ≡ false → byte_below file address (i + 1) ≡ byte_below file address i
   unfolding covers
   byte_below-no_segment address i none =
       byte_below-more address i ∙ cond-false _ _ _ (and_left (is_segment (program_header file i)) _ none)
+
+-- the one header that covers an address gives its byte
+pub byte_below-covered : (file : List ℕ) (address n i : ℕ) → i < n → ((j k : ℕ) → k < j → j < n → meets (program_header file j) (program_header file k) ≡ false) → covers (program_header file i) address ≡ true → byte_below file address n ≡ segment_byte file (program_header file i) address
+unfolding byte_below
+byte_below-covered file address zero i within apart covered = absurd (omega arith)
+byte_below-covered file address (suc n) i within apart covered =
+    ⊎_elim
+    (λ (e : i ≡ n). rw (subst (λ j. covers (program_header file j) address ≡ true) e covered) (ap (λ j. segment_byte file (program_header file j) address) (sym e)))
+    (λ (l : i < n).
+    rw
+    (false_from_ne_true (covers (program_header file n) address)
+    (λ both. both_ways _ (covers-apart file address (program_header file n) (program_header file i) (apart n i l (omega arith)) both) covered))
+    (byte_below-covered file address n i l (λ j k order below. apart j k order (omega arith)) covered))
+    (at_last i n within)
 
 -- Lists of bytes
 
@@ -158,8 +173,8 @@ pub map-from_reads : (f : ℕ → ℕ) (start n : ℕ) (xs : List ℕ) → lengt
 map-from_reads f start n xs size reads =
     ext_get_or 0 xs (map f (range_with_len start n)) (size ∙ sym (length-map-range_with_len f start n))
     (λ k within.
-      let below : k < n = omega (arith, size) in
-      reads k below ∙ sym (get_or-map-range_with_len f start n k (start + k) 0 below refl))
+    let below : k < n = omega (arith, size) in
+    reads k below ∙ sym (get_or-map-range_with_len f start n k (start + k) 0 below refl))
 
 pub replicate-is_map : (start n : ℕ) → replicate {A = ℕ} n 0 ≡ map (λ address. 0) (range_with_len start n)
 replicate-is_map start zero = refl
@@ -171,9 +186,9 @@ bytes-copied file h i start n old new is segment placed apart before same reads 
     let size : length old ≡ n = ap length before ∙ length-map-range_with_len (λ address. byte_below file address i) start n in
     map-from_reads (λ address. byte_below file address (i + 1)) start n new (same ∙ size)
     (λ k below.
-      let was : get_or old k 0 ≡ byte_below file (start + k) i =
-          ap (λ xs. get_or xs k 0) before ∙ get_or-map-range_with_len (λ address. byte_below file address i) start n k (start + k) 0 below refl in
-      reads k (omega (arith, size))
-      ∙ (ap (λ byte. cond (holds_file_byte h (start + k)) (get_or file (h.p_offset + (start + k - h.p_vaddr)) 0) byte) was
-      ∙ (ap (λ x. cond (holds_file_byte x (start + k)) (get_or file (x.p_offset + (start + k - x.p_vaddr)) 0) (byte_below file (start + k) i)) is
-      ∙ sym (byte_below-copied file (start + k) i (subst (λ x. is_segment x ≡ true) is segment) (subst (λ x. IsPlaced file x) is placed) apart))))
+    let was : get_or old k 0 ≡ byte_below file (start + k) i =
+    ap (λ xs. get_or xs k 0) before ∙ get_or-map-range_with_len (λ address. byte_below file address i) start n k (start + k) 0 below refl in
+    reads k (omega (arith, size))
+    ∙ (ap (λ byte. cond (holds_file_byte h (start + k)) (get_or file (h.p_offset + (start + k - h.p_vaddr)) 0) byte) was
+    ∙ (ap (λ x. cond (holds_file_byte x (start + k)) (get_or file (x.p_offset + (start + k - x.p_vaddr)) 0) (byte_below file (start + k) i)) is
+    ∙ sym (byte_below-copied file (start + k) i (subst (λ x. is_segment x ≡ true) is segment) (subst (λ x. IsPlaced file x) is placed) apart))))

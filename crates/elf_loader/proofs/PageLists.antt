@@ -1,5 +1,5 @@
 -- The numbers of a range that pass a test, from the next one on.
-use Rattle.std.proofs.Common.{◌≡◌, ℕ, zero, suc, ◌+◌, ◌<◌, ◌≤◌, Bool, true, false, cond, List, [], ◌∷◌, filter, length, refl, ap₂, ◌∙◌, ⊎_elim, arith}
+use Rattle.std.proofs.Common.{◌≡◌, ℕ, zero, suc, ◌+◌, ◌<◌, ◌≤◌, Bool, true, false, [], ◌∷◌, filter, refl, ap₂, ◌∙◌, ⊎_elim, arith}
 use Rattle.std.specs.List.{range_with_len}
 use Rattle.std.proofs.lemmas.Bool.{cases_order}
 
@@ -20,10 +20,10 @@ module _ (test : ℕ → Bool) where
       ⊎_elim
       (λ (e : a ≡ b). let rest : suc n ≡ m = omega arith in ap₂ (λ x k. filter test (range_with_len x k)) e rest)
       (λ o.
-        ⊎_elim
-        (λ (l : a < b). rw (none a (omega arith) l) (filter-range_skip n (a + 1) b m (omega arith) (omega arith) (λ q above below. none q (omega arith) below)))
-        (λ (l : b < a). absurd (omega arith))
-        o)
+      ⊎_elim
+      (λ (l : a < b). rw (none a (omega arith) l) (filter-range_skip n (a + 1) b m (omega arith) (omega arith) (λ q above below. none q (omega arith) below)))
+      (λ (l : b < a). absurd (omega arith))
+      o)
       (cases_order a b)
 
   -- the next number that passes comes first

@@ -1,12 +1,13 @@
 -- The first refusal of the program headers.
-use Rattle.std.proofs.Common.{◌≡◌, ℕ, zero, suc, ◌+◌, ◌-◌, ◌*◌, ◌^◌, ◌<◌, ◌≤◌, ◌/◌, Bool, true, false, cond, ltb, length, List, Option, Some, None, refl, ap, ◌∙◌, sym, subst, arith, add-one, ⊎_elim}
-use Rattle.std.proofs.lemmas.Bool.{and_cases, or_parts, both_ways, ltb-false, cond_both}
+use Rattle.std.proofs.Common.{◌≡◌, ℕ, zero, suc, ◌+◌, ◌-◌, ◌*◌, ◌^◌, ◌<◌, ◌≤◌, ◌%◌, ◌==◌, Bool, true, false, cond, ltb, length, List, Option, Some, None, refl, sym, subst, arith, add-one, ⊎_elim}
+use Rattle.std.proofs.lemmas.Bool.{and_cases, or_parts, and_parts, both_ways, not-false, ltb-false, eqb-true, cond_both}
+use Rattle.std.proofs.lemmas.Nat.Bits.{bit_at-lt}
 use Rattle.elf_loader.specs.declared.ElfError.{ElfError}
-use Rattle.elf_loader.specs.declared.ElfError.TheVariants.{Interp, Segment, Overlap}
-use Rattle.elf_loader.specs.Fields.{e_phnum, program_header}
-use Rattle.elf_loader.specs.Segments.{is_segment, memory_end, last_page, meets, end_page, IsPlaced}
-use Rattle.elf_loader.specs.Refusal.{or_later, is_misplaced, leaves_file, leaves_pages, meets_earlier, header_refusal, header_refusals}
-use Rattle.elf_loader.proofs.Below.{at_last, any_below-false, max_below-le}
+use Rattle.elf_loader.specs.declared.ElfError.TheVariants.{Interp, Segment, Overlap, Big, Entry}
+use Rattle.elf_loader.specs.Fields.{e_entry, e_phnum, program_header}
+use Rattle.elf_loader.specs.Segments.{is_segment, memory_end, last_page, meets, touches, segment_rights, page_rights, end_page, IsPlaced}
+use Rattle.elf_loader.specs.Refusal.{or_later, is_misplaced, leaves_file, leaves_pages, meets_earlier, file_refusal, header_refusal, header_refusals, refusal, pages, is_runnable, program_refusal}
+use Rattle.elf_loader.proofs.Below.{at_last, any_below-false, max_below-le, union_below-lt}
 
 or_later-none : (first later : Option ElfError) → or_later first later ≡ None → (first ≡ None) × (later ≡ None)
 or_later-none None later none = (refl, none)
@@ -64,12 +65,12 @@ module _ (file : List ℕ) where
       record {
         fits = ltb-false h.p_memsz h.p_filesz size.0;
         in_file = λ some.
-          ⊎_elim
-          (λ (e : ltb 0 h.p_filesz ≡ false). let none = ltb-false 0 h.p_filesz e in absurd (omega arith))
-          (λ (e : ltb (length file) (h.p_offset + h.p_filesz) ≡ false). ltb-false (length file) (h.p_offset + h.p_filesz) e)
-          (and_cases (ltb 0 h.p_filesz) _ places.0);
+            ⊎_elim
+            (λ (e : ltb 0 h.p_filesz ≡ false). let none = ltb-false 0 h.p_filesz e in absurd (omega arith))
+            (λ (e : ltb (length file) (h.p_offset + h.p_filesz) ≡ false). ltb-false (length file) (h.p_offset + h.p_filesz) e)
+            (and_cases (ltb 0 h.p_filesz) _ places.0);
         above = ltb-false h.p_vaddr 4096 limits.0;
-        below = ltb-false ((2 ^ 26 - 16) * 4096) (memory_end h) limits.1
+        below = ltb-false ((2 ^ 26 - 16) * 4096) (memory_end h) limits.1;
       }
 
   pub meets-from_none : (i j : ℕ) → j < i → header_refusal file i ≡ None → meets (program_header file i) (program_header file j) ≡ false
@@ -82,7 +83,35 @@ unfolding end_page
 end_page-small file none =
     max_below-le (λ i. cond (is_segment (program_header file i)) (last_page (program_header file i) + 1) 0) (2 ^ 26 - 16) (e_phnum file)
     (λ i below.
-      let h = program_header file i in
-      cond_both (is_segment h) (last_page h + 1) 0 (λ x. x ≤ 2 ^ 26 - 16)
-      (λ segment. let placed = IsPlaced-from_none file i (header_refusals-each file (e_phnum file) i below none) segment in let limit = placed.below in omega arith)
-      (λ other. omega arith))
+    let h = program_header file i in
+    cond_both (is_segment h) (last_page h + 1) 0 (λ x. x ≤ 2 ^ 26 - 16)
+    (λ segment. let placed = IsPlaced-from_none file i (header_refusals-each file (e_phnum file) i below none) segment in let limit = placed.below in omega arith)
+    (λ other. omega arith))
+
+pub page_rights-small : (file : List ℕ) (page : ℕ) → page_rights file page < 8
+unfolding page_rights segment_rights
+page_rights-small file page =
+    union_below-lt (λ i. cond (touches (program_header file i) page) (segment_rights (program_header file i)) 0) 3 (e_phnum file)
+    (λ i.
+    let h = program_header file i in
+    cond_both (touches h page) (segment_rights h) 0 (λ x. x < 8)
+    (λ _.
+    let read = bit_at-lt h.p_flags 2 in
+    let write = bit_at-lt h.p_flags 1 in
+    let run = bit_at-lt h.p_flags 0 in
+    omega arith)
+    (λ _. omega arith))
+
+pub program_refusal-parts : (file : List ℕ) → program_refusal file ≡ None → (length (pages file) ≤ 1008) × (e_entry file % 4 ≡ 0)
+unfolding program_refusal
+program_refusal-parts file none =
+    let first = not_refused _ Big _ none in
+    let second = not_refused _ Entry None first.1 in
+    let good = and_parts (e_entry file % 4 == 0) (is_runnable file (e_entry file)) (not-false _ second.0) in
+    (ltb-false 1008 (length (pages file)) first.0, eqb-true (e_entry file % 4) 0 good.0)
+
+pub refusal-parts : (file : List ℕ) → refusal file ≡ None → (file_refusal file ≡ None) × (header_refusals file (e_phnum file) ≡ None) × (program_refusal file ≡ None)
+refusal-parts file none =
+    let first = or_later-none (file_refusal file) _ none in
+    let rest = or_later-none (header_refusals file (e_phnum file)) (program_refusal file) first.1 in
+    (first.0, rest.0, rest.1)

@@ -1,13 +1,13 @@
 -- Runs of touched pages.
-use Rattle.std.proofs.Common.{◌≡◌, ◌≢◌, ◌⊎◌, ℕ, zero, suc, ◌+◌, ◌-◌, ◌*◌, ◌<◌, ◌≤◌, Bool, true, false, cond, ◌&&◌, ◌==◌, nat_eq, List, [], ◌∷◌, ◌++◌, map, filter, length, refl, ap, ap₂, sym, subst, ◌∙◌, ⊎_elim, inl, inr, arith, zero-add, append_assoc}
+use Rattle.std.proofs.Common.{◌≡◌, ◌≢◌, ℕ, zero, suc, ◌+◌, ◌-◌, ◌*◌, ◌<◌, ◌≤◌, true, false, ◌&&◌, ◌==◌, List, [], ◌∷◌, ◌++◌, map, filter, refl, ap, ap₂, sym, subst, ◌∙◌, ⊎_elim, arith, zero-add}
 use Rattle.std.specs.List.{range_with_len}
-use Rattle.std.proofs.lemmas.Bool.{cond-true, cond-false, and_left, and_right, and_from, and_parts, and_cases, cases_Bool, eq-eqb, ne_eqb, eqb-true, both_ways, false_from_ne_true}
+use Rattle.std.proofs.lemmas.Bool.{and_left, and_right, and_from, and_parts, cases_Bool, eq-eqb, ne_eqb, eqb-true, both_ways}
 use Rattle.std.proofs.lemmas.List.{map-append}
 use Rattle.elf_loader.specs.declared.Run.{Run}
 use Rattle.elf_loader.specs.Fields.{e_phnum}
-use Rattle.elf_loader.specs.Segments.{is_touched, page_rights, end_page, has_rights, byte_below}
+use Rattle.elf_loader.specs.Segments.{is_touched, page_rights, has_rights, byte_below}
 use Rattle.elf_loader.specs.Image.{page_bytes, with_page, runs_of}
-use Rattle.elf_loader.proofs.PageLists.{filter-range_here, filter-range_skip, filter-range_none}
+use Rattle.elf_loader.proofs.PageLists.{filter-range_skip}
 
 range_with_len-append : (m a n : ℕ) → range_with_len a (m + n) ≡ range_with_len a m ++ range_with_len (a + m) n
 range_with_len-append zero a n = ap₂ (λ x k. range_with_len x k) (omega arith) (omega arith)
@@ -54,8 +54,8 @@ module _ (file : List ℕ) where
   with_page-starts page (run ∷ runs) =
       ⊎_elim
       (λ (joins : (run.page == page + 1 && run.rights == page_rights file page) ≡ true).
-        let parts = and_parts (run.page == page + 1) (run.rights == page_rights file page) joins in
-        rw joins (refl, eqb-true run.rights (page_rights file page) parts.1))
+      let parts = and_parts (run.page == page + 1) (run.rights == page_rights file page) joins in
+      rw joins (refl, eqb-true run.rights (page_rights file page) parts.1))
       (λ (apart : (run.page == page + 1 && run.rights == page_rights file page) ≡ false). rw apart (refl, refl))
       (cases_Bool (run.page == page + 1 && run.rights == page_rights file page))
 
@@ -80,7 +80,7 @@ module _ (file : List ℕ) where
   StartsFrom-touched (suc n) page =
       ⊎_elim
       (λ (here : is_touched file page ≡ true).
-        rw here (StartsFrom-at page page (with_page file page (runs_of file (touched_from (page + 1) n))) (omega arith) (with_page-starts page (runs_of file (touched_from (page + 1) n)))))
+      rw here (StartsFrom-at page page (with_page file page (runs_of file (touched_from (page + 1) n))) (omega arith) (with_page-starts page (runs_of file (touched_from (page + 1) n)))))
       (λ (not : is_touched file page ≡ false). rw not (StartsFrom-less page (page + 1) (runs_of file (touched_from (page + 1) n)) (omega arith) (StartsFrom-touched n (page + 1))))
       (cases_Bool (is_touched file page))
 
@@ -100,14 +100,14 @@ module _ (file : List ℕ) where
   StandsApart-touched (suc m) page other =
       ⊎_elim
       (λ (here : is_touched file (page + 1) ≡ true).
-        rw here
-        (StandsApart-other page (with_page file (page + 1) (runs_of file (touched_from (page + 1 + 1) m)))
-        (λ e. both_ways _ other (and_from (is_touched file (page + 1)) _ here (eq-eqb (page_rights file (page + 1)) (page_rights file page) e)))
-        (with_page-starts (page + 1) (runs_of file (touched_from (page + 1 + 1) m)))))
+      rw here
+      (StandsApart-other page (with_page file (page + 1) (runs_of file (touched_from (page + 1 + 1) m)))
+      (λ e. both_ways _ other (and_from (is_touched file (page + 1)) _ here (eq-eqb (page_rights file (page + 1)) (page_rights file page) e)))
+      (with_page-starts (page + 1) (runs_of file (touched_from (page + 1 + 1) m)))))
       (λ (not : is_touched file (page + 1) ≡ false).
-        rw not
-        (StandsApart-above page (runs_of file (touched_from (page + 1 + 1) m))
-        (StartsFrom-less (page + 2) (page + 1 + 1) (runs_of file (touched_from (page + 1 + 1) m)) (omega arith) (StartsFrom-touched m (page + 1 + 1)))))
+      rw not
+      (StandsApart-above page (runs_of file (touched_from (page + 1 + 1) m))
+      (StartsFrom-less (page + 2) (page + 1 + 1) (runs_of file (touched_from (page + 1 + 1) m)) (omega arith) (StartsFrom-touched m (page + 1 + 1)))))
       (cases_Bool (is_touched file (page + 1)))
 
   joined : ℕ → ℕ → ℕ → List Run → List Run
@@ -142,9 +142,9 @@ module _ (file : List ℕ) where
       runs_of-here page (suc k + m) here
       ∙ (ap (λ n. with_page file page (runs_of file (touched_from (page + 1) n))) (omega arith)
       ∙ (ap (λ runs. with_page file page runs)
-          (runs_of-run_from k (page + 1) rights m next.1 next.0
-          (λ q above below. same q (omega arith) (omega arith))
-          (subst (λ q. has_rights file rights q ≡ false) (sym after) other))
+      (runs_of-run_from k (page + 1) rights m next.1 next.0
+      (λ q above below. same q (omega arith) (omega arith))
+      (subst (λ q. has_rights file rights q ≡ false) (sym after) other))
       ∙ (with_page-joins page rights (suc k) (runs_of file (touched_from (page + 1 + suc k) m)) is
       ∙ ap₂ (λ count q. joined page rights count (runs_of file (touched_from q m))) (omega arith) after)))
 

@@ -44,7 +44,7 @@ header_at file at = record {
   p_offset = number_at file (at + 8) 8;
   p_vaddr = number_at file (at + 16) 8;
   p_filesz = number_at file (at + 32) 8;
-  p_memsz = number_at file (at + 40) 8
+  p_memsz = number_at file (at + 40) 8;
 }
 
 -- The program header of that number, from 0 on: entries of 56 bytes from e_phoff on.

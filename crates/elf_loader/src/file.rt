@@ -6,9 +6,13 @@ use crate::ElfError;
 use crate::header::{ProgramHeader, header_at, u16_at, u64_at};
 
 const MAGIC: [u8; 4] = *b"\x7fELF";
+
 const ELFCLASS64: u8 = 2;
+
 const ELFDATA2LSB: u8 = 1;
+
 const ET_EXEC: u16 = 2;
+
 const EM_RISCV: u16 = 243;
 
 /// A file whose file header is one that the loader takes, with its table of program headers.
@@ -53,7 +57,9 @@ impl<'a> ElfFile<'a> {
         let entry_size = u16_at(bytes, 54);
         let count = u16_at(bytes, 56) as usize;
         let table_size = 56 * count;
-        if count > 0 && (entry_size != 56 || table_size > bytes.len() || table > bytes.len() - table_size) {
+        if count > 0
+            && (entry_size != 56 || table_size > bytes.len() || table > bytes.len() - table_size)
+        {
             return Err(ElfError::Table);
         }
         Ok(ElfFile {

@@ -74,8 +74,8 @@ impl ProgramHeader {
         requires small { start + length memory.old ≤ 2 ^ 38 }
         ensures { (k : ℕ) → k < length memory.old → slice_index memory.new k
             ≡ (if holds_file_byte self.now (start + k)
-                then slice_index file.now (self.now.p_offset + (start + k - self.now.p_vaddr))
-                else slice_index memory.old k) }
+            then slice_index file.now (self.now.p_offset + (start + k - self.now.p_vaddr))
+            else slice_index memory.old k) }
     {
         let from = start.max(self.p_vaddr);
         let end = (start + memory.len() as u64).min(self.p_vaddr + self.p_filesz);

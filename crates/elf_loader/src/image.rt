@@ -4,12 +4,11 @@ ghost use Rattle.elf_loader.specs.Segments.{end_page};
 ghost use Rattle.elf_loader.specs.Refusal.{header_refusals, pages};
 ghost use Rattle.elf_loader.specs.Image.{page_bytes, runs_of};
 
-use bas_items::Items;
-use std::alloc::{AllocError, Global};
-
 use crate::Run;
 use crate::file::ElfFile;
 use crate::header::PAGE_SIZE;
+use bas_items::Items;
+use std::alloc::{AllocError, Global};
 
 impl ElfFile<'_> {
     /// The bytes of `count` pages from `page` on.
@@ -40,7 +39,11 @@ impl ElfFile<'_> {
             let rights = self.page_rights(page);
             let after = self.run_end(page, rights, end);
             let bytes = self.page_bytes(alloc, page, after - page)?;
-            runs.push(Run { page, rights, bytes })?;
+            runs.push(Run {
+                page,
+                rights,
+                bytes,
+            })?;
             from = after;
         }
         Ok(runs)

@@ -2,20 +2,22 @@
 #![tactic(auto)]
 
 ghost use Rattle.std.specs.Prelude.{◌≡◌, IfOk};
-ghost use Rattle.elf_loader.specs.Image.{Tells, loaded};
-
-use bas_items::Items;
-use std::alloc::{AllocError, Global};
-use thiserror::Error;
+ghost use Rattle.elf_loader.specs.Image.{FitsProcess, IsImage, Tells, loaded};
 
 use crate::file::ElfFile;
 use crate::header::PAGE_SIZE;
+use bas_items::Items;
+use std::alloc::{AllocError, Global};
+use thiserror::Error;
 
 mod check;
 mod file;
 mod header;
 mod image;
+mod laws;
 mod pages;
+
+pub use laws::{bytes_of_segments, one_image, rights_of_segments};
 
 /// What a program asks for in memory.
 #[derive(Debug, Drop)]
@@ -115,6 +117,8 @@ impl From<AllocError> for LoadError {
 /// The program of an ELF file, or the first refusal that fits.
 pub fn load(alloc: Global, bytes: &[u8]) -> Result<Program, LoadError>
     ensures exact { Tells result (loaded bytes.now) }
+    ensures image { IfOk result (IsImage bytes.now) }
+    ensures fits { IfOk result FitsProcess }
 {
     let file = ElfFile::open(bytes)?;
     file.check_headers()?;
@@ -127,3 +131,6 @@ pub fn load(alloc: Global, bytes: &[u8]) -> Result<Program, LoadError>
         end: PAGE_SIZE * end,
     })
 }
+
+#[cfg(test)]
+mod tests;

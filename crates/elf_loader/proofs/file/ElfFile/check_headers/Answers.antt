@@ -1,4 +1,4 @@
-use Rattle.std.proofs.Common.{◌≡◌, sym, ◌∙◌, rules, arith}
+use Rattle.std.proofs.Common.{arith}
 use Rattle.std.proofs.lemmas.Result.{err_from_is_err_and}
 use Rattle.elf_loader.proofs.Refusals.{header_refusals-none, header_refusals-more, header_refusals-first}
 use Rattle.elf_loader.proofs.file.ElfFile.check_headers.Goals as goal

@@ -1,4 +1,4 @@
-use Rattle.std.proofs.Common.{◌≡◌, ℕ, ◌+◌, ◌-◌, ◌≤◌, ◌<◌, Some, None, ◌∷◌, [], filter, length, sym, ap, arith}
+use Rattle.std.proofs.Common.{◌≡◌, ◌+◌, ◌-◌, Some, None, filter, length, sym, ap, arith}
 use Rattle.std.specs.List.{range_with_len}
 use Rattle.std.proofs.lemmas.Bool.{lt-ltb, le-ltb}
 use Rattle.elf_loader.specs.Segments.{is_touched, end_page, IsNext}
@@ -41,7 +41,7 @@ loop-page-preserved c =
     record {
       within = omega (arith, below);
       counted = omega (arith, ap length first, c.loop-page.invariant.counted);
-      few = omega (arith, c.loop-page.invariant.few)
+      few = omega (arith, c.loop-page.invariant.few);
     }
 
 pub returns : goal.returns

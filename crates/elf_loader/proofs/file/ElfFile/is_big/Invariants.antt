@@ -8,7 +8,7 @@ abbrev pub invariant-loop-page : goal.invariant-loop-page
 invariant-loop-page l = record {
   within : l.from ≤ end_page l.self.bytes.now;
   counted : l.count + length (filter (is_touched l.self.bytes.now) (range_with_len l.from (end_page l.self.bytes.now - l.from))) ≡ length (pages l.self.bytes.now);
-  few : l.count ≤ 1008
+  few : l.count ≤ 1008;
 }
 
 abbrev pub decreases-loop-page : goal.decreases-loop-page

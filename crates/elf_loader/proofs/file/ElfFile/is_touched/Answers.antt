@@ -1,4 +1,4 @@
-use Rattle.std.proofs.Common.{◌≡◌, true, false, subst, sym, ◌∙◌, rules, arith}
+use Rattle.std.proofs.Common.{◌≡◌, false, subst, sym, ◌∙◌, arith}
 use Rattle.std.proofs.lemmas.Bool.{or_from}
 use Rattle.elf_loader.specs.Fields.{e_phnum, program_header}
 use Rattle.elf_loader.specs.Segments.{any_below, touches, is_touched}

@@ -1,9 +1,8 @@
-use Rattle.std.proofs.Common.{◌≡◌, ℕ, ◌+◌, ◌*◌, ◌<◌, true, false, cond, List, None, map, length, replicate, get_or, refl, ap, sym, subst, ◌∙◌, arith, rules}
+use Rattle.std.proofs.Common.{◌≡◌, ℕ, ◌+◌, ◌*◌, true, false, map, length, replicate, ap, sym, subst, ◌∙◌, arith, rules}
 use Rattle.std.specs.List.{range_with_len}
 use Rattle.std.proofs.lemmas.List.{with_items_is}
 use Rattle.elf_loader.specs.Fields.{e_phnum, program_header}
 use Rattle.elf_loader.specs.Segments.{is_segment, byte_below, IsPlaced}
-use Rattle.elf_loader.specs.Refusal.{header_refusal}
 use Rattle.elf_loader.specs.Image.{page_bytes}
 use Rattle.elf_loader.proofs.Refusals.{header_refusals-each, IsPlaced-from_none, meets-from_none}
 use Rattle.elf_loader.proofs.MemoryBytes.{bytes-copied, byte_below-no_segment, map-same, replicate-is_map}
@@ -30,21 +29,21 @@ loop-i-preserved c =
     let size : ℕ = 4096 * c.args.count in
     let old = c.loop-i.invariant in
     elim c.if-is_segment.branch [
-      then-is_segment w ↦
+      | then-is_segment w ↦
           let none = header_refusals-each file (e_phnum file) c.loop-i.i (omega (arith, c.args.self.now.counted)) c.requires.sound in
           let segment : is_segment c.header-header.result ≡ true = sym c.is_segment.ensures ∙ w.if-is_segment.true in
           let placed : IsPlaced file c.header-header.result =
-              subst (λ h. IsPlaced file h) (sym c.header-header.ensures) (IsPlaced-from_none file c.loop-i.i none (subst (λ h. is_segment h ≡ true) c.header-header.ensures segment)) in
+          subst (λ h. IsPlaced file h) (sym c.header-header.ensures) (IsPlaced-from_none file c.loop-i.i none (subst (λ h. is_segment h ≡ true) c.header-header.ensures segment)) in
           let now = w.as_mut_slice.result.now in
           let kept : length w.copy_into.new.memory ≡ length now = w.copy_into.auto.memory in
           let written : c.if-is_segment.bytes.items ≡ w.copy_into.new.memory =
-              ap (λ v. v.items) w.bytes-is ∙ with_items_is c.loop-i.bytes w.copy_into.new.memory (kept ∙ w.as_mut_slice.ensures.len) in
+          ap (λ v. v.items) w.bytes-is ∙ with_items_is c.loop-i.bytes w.copy_into.new.memory (kept ∙ w.as_mut_slice.ensures.len) in
           written
           ∙ bytes-copied file c.header-header.result c.loop-i.i start size now w.copy_into.new.memory c.header-header.ensures segment placed
-            (λ j below. meets-from_none file c.loop-i.i j below none)
-            (w.as_mut_slice.ensures.value ∙ old)
-            kept
-            w.copy_into.ensures
+          (λ j below. meets-from_none file c.loop-i.i j below none)
+          (w.as_mut_slice.ensures.value ∙ old)
+          kept
+          w.copy_into.ensures
       | else-is_segment w ↦
           let none : is_segment (program_header file c.loop-i.i) ≡ false = ap (λ x. is_segment x) (sym c.header-header.ensures) ∙ (sym c.is_segment.ensures ∙ w.if-is_segment.false) in
           rw w.bytes-is (old ∙ map-same (λ address. byte_below file address c.loop-i.i) (λ address. byte_below file address (c.loop-i.i + 1)) (range_with_len start size) (λ address. sym (byte_below-no_segment file address c.loop-i.i none)))

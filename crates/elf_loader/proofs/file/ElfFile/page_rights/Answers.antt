@@ -1,8 +1,8 @@
-use Rattle.std.proofs.Common.{◌≡◌, ℕ, true, false, cond, bit_or, subst, sym, ap, ap₂, ◌∙◌, arith}
+use Rattle.std.proofs.Common.{◌≡◌, ℕ, cond, bit_or, sym, ap, ap₂, ◌∙◌}
 use Rattle.std.specs.Int.Bits.{or_zero_r}
 use Rattle.std.proofs.lemmas.Bool.{cond-true, cond-false}
-use Rattle.elf_loader.specs.Fields.{e_phnum, program_header}
-use Rattle.elf_loader.specs.Segments.{union_below, touches, segment_rights, page_rights}
+use Rattle.elf_loader.specs.Fields.{program_header}
+use Rattle.elf_loader.specs.Segments.{union_below, touches, segment_rights}
 use Rattle.elf_loader.proofs.Below.{union_below-none, union_below-more}
 use Rattle.elf_loader.proofs.file.ElfFile.page_rights.Goals as goal
 use Rattle.elf_loader.proofs.file.ElfFile.page_rights.Goals.{then-touches, else-touches}
@@ -17,7 +17,7 @@ loop-i-preserved c =
     let h = program_header file c.loop-i.i in
     let more = union_below-more rights_at c.loop-i.i in
     elim c.if-touches.branch [
-      then-touches w ↦
+      | then-touches w ↦
           let here : rights_at c.loop-i.i ≡ segment_rights h = cond-true (touches h c.args.page) (segment_rights h) 0 cc in
           w.rights-is
           ∙ (ap₂ bit_or c.loop-i.invariant (w.rights-rights.ensures ∙ ap segment_rights c.header-header.ensures)

@@ -1,4 +1,4 @@
-use Rattle.std.proofs.Common.{◌≡◌, ℕ, ◌+◌, ◌-◌, ◌≤◌, ◌<◌, Some, None, ◌∷◌, [], ◌++◌, filter, List, append-nil, append_assoc, sym, ap, ◌∙◌, arith, refl}
+use Rattle.std.proofs.Common.{◌≡◌, ◌-◌, ◌≤◌, ◌<◌, Some, None, ◌∷◌, [], ◌++◌, filter, List, append-nil, append_assoc, sym, ap, ◌∙◌, arith}
 use Rattle.std.specs.List.{range_with_len}
 use Rattle.elf_loader.specs.declared.Run.{Run}
 use Rattle.elf_loader.specs.Segments.{is_touched, end_page, IsNext}
@@ -19,7 +19,7 @@ loop-page-init c =
       within = omega arith;
       runs =
           sym (ap (λ n. runs_of file (filter (is_touched file) (range_with_len 0 n))) whole)
-          ∙ ap (λ xs. xs ++ runs_of file (filter (is_touched file) (range_with_len 0 (end_page file - 0)))) (sym c.new-runs.ensures)
+          ∙ ap (λ xs. xs ++ runs_of file (filter (is_touched file) (range_with_len 0 (end_page file - 0)))) (sym c.new-runs.ensures);
     }
 
 pub run_end-after-requires-clause-first : goal.run_end-after-requires-clause-first
@@ -45,19 +45,19 @@ loop-page-preserved c =
     let below : page < after = c.run_end-after.ensures.after in
     let rest : List Run = runs_of file (filter (is_touched file) (range_with_len after (end_page file - after))) in
     let first =
-        runs_of-run file from (end_page file - from) page c.page_rights-rights.result after (end_page file - after) (omega (arith, next.0)) next.0 below next.2 next.1
-        (sym c.page_rights-rights.ensures) c.run_end-after.ensures.same c.run_end-after.ensures.other in
+    runs_of-run file from (end_page file - from) page c.page_rights-rights.result after (end_page file - after) (omega (arith, next.0)) next.0 below next.2 next.1
+    (sym c.page_rights-rights.ensures) c.run_end-after.ensures.same c.run_end-after.ensures.other in
     let run : Run = record { page = page; rights = c.page_rights-rights.result; bytes = page_bytes file page (after - page) } in
     let pushed : c.push.new.self ≡ c.loop-page.runs ++ run ∷ [] =
-        c.in_ok-push.ensures.ok
-        ∙ ap (λ bytes. c.loop-page.runs ++ record { page = page; rights = c.page_rights-rights.result; bytes = bytes } ∷ []) c.in_ok-bytes.ensures in
+    c.in_ok-push.ensures.ok
+    ∙ ap (λ bytes. c.loop-page.runs ++ record { page = page; rights = c.page_rights-rights.result; bytes = bytes } ∷ []) c.in_ok-bytes.ensures in
     record {
       within = within;
       runs =
           c.loop-page.invariant.runs
           ∙ (ap (λ xs. c.loop-page.runs ++ xs) first
           ∙ (sym (append_assoc c.loop-page.runs (run ∷ []) rest)
-          ∙ ap (λ xs. xs ++ rest) (sym pushed)))
+          ∙ ap (λ xs. xs ++ rest) (sym pushed)));
     }
 
 pub returns : goal.returns

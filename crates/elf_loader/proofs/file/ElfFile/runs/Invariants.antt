@@ -8,7 +8,7 @@ use Rattle.elf_loader.proofs.file.ElfFile.runs.Given as goal
 abbrev pub invariant-loop-page : goal.invariant-loop-page
 invariant-loop-page l = record {
   within : l.from ≤ end_page l.self.bytes.now;
-  runs : runs_of l.self.bytes.now (pages l.self.bytes.now) ≡ l.runs ++ runs_of l.self.bytes.now (filter (is_touched l.self.bytes.now) (range_with_len l.from (end_page l.self.bytes.now - l.from)))
+  runs : runs_of l.self.bytes.now (pages l.self.bytes.now) ≡ l.runs ++ runs_of l.self.bytes.now (filter (is_touched l.self.bytes.now) (range_with_len l.from (end_page l.self.bytes.now - l.from)));
 }
 
 abbrev pub decreases-loop-page : goal.decreases-loop-page

@@ -13,5 +13,5 @@ returns-then-from-end c =
     let len : ℕ = from - start + (end - from) - (from - start) in
     let copied : c.copy_from_slice.new.self ≡ take len (drop (h.p_offset + (from - h.p_vaddr)) file) = c.copy_from_slice.ensures.after ∙ ap (λ n. take n (drop (h.p_offset + (from - h.p_vaddr)) file)) (omega arith) in
     λ k within.
-      get_or-copied file c.args.memory.now c.copy_from_slice.new.self h c.requires.placed start from end at len
-      c.max-from.ensures c.min-end.ensures c.if-from-end.true refl (omega arith) copied k within
+    get_or-copied file c.args.memory.now c.copy_from_slice.new.self h c.requires.placed start from end at len
+    c.max-from.ensures c.min-end.ensures c.if-from-end.true refl (omega arith) copied k within
