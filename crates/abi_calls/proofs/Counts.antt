@@ -1,14 +1,14 @@
 -- How many entries of a map from numbers pass a test.
 use Rattle.std.specs.Prelude.{◌≡◌, ℕ, ◌+◌, Bool, true, false, cond, ◌&&◌, T, List, [], ◌∷◌, map, length, count_by}
-use Rattle.std.specs.Ordering.{nat_cmp, is_lt, is_eq}
-use Rattle.std.specs.Cmp.{nat_cmp_total}
+use Rattle.std.specs.Ordering.{nat_cmp, is_lt, is_eq, eq_by_cmp}
+use Rattle.std.specs.Cmp.{nat_cmp_total, unsigned_tied}
 use Rattle.std.specs.FinMap.{FinMap, get, insert, remove, empty, entries, entries_sorted, entries-insert, get-entries, len-entries, len-empty, values}
 use Rattle.std.specs.FinMap.Entries.{put, find, is_sorted, below_all, by_order, is_sorted-put}
 use Rattle.std.specs.declared.cmp.Ordering.{Ordering}
 use Rattle.std.specs.declared.cmp.Ordering.TheVariants.{Less, Equal, Greater}
 use Rattle.std.specs.declared.option.Option.{Option}
 use Rattle.std.specs.declared.option.Option.TheVariants.{None, Some}
-use Rattle.std.proofs.Common.{refl, sym, ap, ◌∙◌, arith}
+use Rattle.std.proofs.Common.{refl, sym, ap, ◌∙◌, arith, eq-eqb, eqb-true}
 use Rattle.std.proofs.lemmas.List.Sums.{sum_by-cons}
 use Rattle.abi_calls.proofs.NumberMaps.{get_gone, set_after_unset, set_what_is_there}
 
@@ -85,3 +85,32 @@ module _ {X : Type 0} (test : X → Bool) where
 
   pub count_empty : count_by test (values {R = nat_cmp} empty) ≡ 0
   count_empty = unfolded empty ∙ no_entries (entries empty) (sym (len-entries empty) ∙ len-empty nat_cmp X)
+
+  -- Where no look-up finds a value that passes, none passes.
+  tied_self : (q : ℕ) → eq_by_cmp nat_cmp q q ≡ true
+  tied_self q = unsigned_tied q q ∙ eq-eqb q q refl
+
+  head_fails : (e : ℕ × X) (es : List (ℕ × X)) → one_at (find nat_cmp e.0 (e ∷ es)) ≡ 0 → one_of e.1 ≡ 0
+  head_fails e es none = sym (ap (λ b. one_at (cond b (Some e.1) (find nat_cmp e.0 es))) (tied_self e.0)) ∙ none
+
+  tail_fails : (e : ℕ × X) (es : List (ℕ × X)) (q : ℕ) → T (below_all nat_cmp e.0 es) → one_at (find nat_cmp q (e ∷ es)) ≡ 0 → one_at (find nat_cmp q es) ≡ 0
+  tail_fails e es q below none =
+      elim (eq_by_cmp nat_cmp q e.0) as (λ b. eq_by_cmp nat_cmp q e.0 ≡ b → one_at (cond b (Some e.1) (find nat_cmp q es)) ≡ 0 → one_at (find nat_cmp q es) ≡ 0) [
+        | true ↦ λ tied _. ap (λ k. one_at (find nat_cmp k es)) (eqb-true q e.0 (sym (unsigned_tied q e.0) ∙ tied)) ∙ ap one_at (below_none e.0 es below)
+        | false ↦ λ other fails. fails
+      ] refl none
+
+  none_values : (es : List (ℕ × X)) → T (is_sorted nat_cmp es) → ((q : ℕ) → one_at (find nat_cmp q es) ≡ 0) → count_values es ≡ 0
+  none_values [] sorted none = no_entries [] refl
+  none_values (e ∷ es) sorted none =
+      let parts = parted (below_all nat_cmp e.0 es) (is_sorted nat_cmp es) sorted in
+      let head : one_of e.1 ≡ 0 = head_fails e es (none e.0) in
+      let rest = none_values es parts.1 (λ q. tail_fails e es q parts.0 (none q)) in
+      omega (arith, count_cons e es, head, rest)
+
+  fails_at : (x : Option X) → ((v : X) → x ≡ Some v → test v ≡ false) → one_at x ≡ 0
+  fails_at None fails = refl
+  fails_at (Some v) fails = ap (λ b. cond b 1 0) (fails v refl)
+
+  pub count_none : (m : FinMap nat_cmp X) → ((k : ℕ) (v : X) → get m k ≡ Some v → test v ≡ false) → count_by test (values m) ≡ 0
+  count_none m fails = unfolded m ∙ none_values (entries m) (entries_sorted m) (λ q. ap one_at (sym (get-entries m q)) ∙ fails_at (get m q) (fails q))

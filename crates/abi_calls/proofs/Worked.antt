@@ -62,7 +62,7 @@ exit_of_exited w p s r is = ap (λ x. process_exited w p 7 (running x)) is
 rests : (o : Objects) (t : ℕ) → o.suspended ≡ t ∷ [] → is_resting o t ≡ true
 rests o t suspended = ap (λ ts. contains ts t || is_at t o.current) suspended ∙ ap (λ b. (b || false) || is_at t o.current) (eq-eqb t t refl)
 
-resume_suspended : (w : World) (t p : ℕ) (context : Context) (r : Reply) → object_at w.objects t ≡ Some (Thread p context) → w.objects.suspended ≡ t ∷ [] →
+pub resume_suspended : (w : World) (t p : ℕ) (context : Context) (r : Reply) → object_at w.objects t ≡ Some (Thread p context) → w.objects.suspended ≡ t ∷ [] →
     answer w (ThreadResume t) r ≡ (Done, with_objects w (started w.objects t))
 resume_suspended w t p context r is suspended =
     ap (thread_resumed w t) is ∙ ap (λ b. if b then (Done, with_objects w (started w.objects t)) else (Busy, w)) (rests w.objects t suspended)

@@ -1,14 +1,18 @@
 -- Files by name, and what writing does to the bytes of one.
-use Rattle.std.specs.Prelude.{ℕ, ◌+◌, ◌-◌, ◌≤◌, ◌==◌, if◌then◌else◌, List, [], ◌++◌, length, take, drop, replicate, reverse, Option, option_map, unwrap_or, IsSome, IsNone, IsSomeAnd}
-use Rattle.std.specs.Prelude.{map, Vec, String, string_bytes}
+use Rattle.std.specs.Prelude.{ℕ, ◌+◌, ◌-◌, ◌≤◌, ◌==◌, if◌then◌else◌, List, [], ◌++◌, length, take, drop, replicate, reverse, Option, option_map, unwrap_or, IsSome, IsNone, IsSomeAnd, map, Vec, String, string_bytes}
 use Rattle.std.specs.Ordering.{nat_cmp}
 use Rattle.std.specs.BTreeMap.{BTreeMap}
+use Rattle.std.specs.Coded.{Coded, coded_list, coded_ℕ}
 use Rattle.std.specs.Cmp.Lexicographic.{slice_cmp}
-use Rattle.std.specs.FinMap.{FinMap, get, insert, remove, from_entries}
+use Rattle.std.specs.FinMap.{FinMap, code, get, insert, remove, from_entries}
 
 -- Files by name, a name being its bytes.
 abbrev pub Files : Type 0
 Files = FinMap (slice_cmp nat_cmp) (List ℕ)
+
+-- They are stored as the list of their entries.
+abbrev pub files_code : Coded Files
+files_code = code (coded_list coded_ℕ) (coded_list coded_ℕ)
 
 -- The bytes of the file that has the name, if one has it.
 abbrev pub file_of : Files → List ℕ → Option (List ℕ)
@@ -34,12 +38,12 @@ HasNoFile files name = IsNone (file_of files name)
 abbrev pub HasRange : Files → List ℕ → ℕ → ℕ → Type 0
 HasRange files name at count = IsSomeAnd (file_of files name) (λ bytes. at + count ≤ length bytes)
 
--- The text with these bytes from `at` on, a gap past the old end filled with zeros. No bytes change nothing.
+-- The text with these bytes from `at` on, a gap past the old end filled with zeros. No bytes change nothing (POSIX `pwrite`).
 abbrev pub overwritten : List ℕ → ℕ → List ℕ → List ℕ
 overwritten old at bytes =
     if length bytes == 0 then old else (take at old ++ replicate (at - length old) 0 ++ bytes ++ drop (at + length bytes) old)
 
--- The text cut to this length, or filled up to it with zeros.
+-- The text cut to this length, or filled up to it with zeros (POSIX `ftruncate`).
 abbrev pub resized : List ℕ → ℕ → List ℕ
 resized old size = take size old ++ replicate (size - length old) 0
 
@@ -63,7 +67,7 @@ with_length name size files = insert files name (resized (file_bytes files name)
 abbrev pub without_file : List ℕ → Files → Files
 without_file name files = remove files name
 
--- The files with the first name's file under the second name, in place of one that had it.
+-- The files with the first name's file under the second name, in place of one that had it (POSIX `rename`).
 abbrev pub with_renamed : List ℕ → List ℕ → Files → Files
 with_renamed from to files = insert (remove files from) to (file_bytes files from)
 

@@ -1,6 +1,5 @@
-ghost use Rattle.std.specs.Prelude.{◌≡◌, [], Some, length, map, take, drop, option_map, option_copied, IsNone, IfOk, OnOk, OnErr};
-ghost use Rattle.bas_edge.specs.Faults.{HasCause};
-ghost use Rattle.bas_edge.specs.Files.{HasFile, HasNoFile, HasRange, entry_of, file_bytes, file_length, file_of, files_of, overwritten, with_bytes_at, with_file, with_length, with_renamed, without_file};
+ghost use Rattle.std.specs.Prelude.{◌≡◌, Some, map, option_copied, IfOk, OnOk, OnErr};
+ghost use Rattle.bas_edge.specs.Files.{HasFile, entry_of, file_bytes, file_of, files_of, overwritten, with_file, without_file};
 ghost use Rattle.std.specs.FinMap as finite;
 
 use crate::errors::{EdgeError, Memory};
@@ -17,13 +16,11 @@ pub struct CalmStore {
 }
 
 impl Model for CalmStore {
-    ghost use Rattle.bas_edge.specs.Files.{Files, files_in};
-    ghost use Rattle.std.specs.FinMap as finite;
-    ghost use Rattle.std.specs.Coded.{coded_list, coded_ℕ};
+    ghost use Rattle.bas_edge.specs.Files.{Files, files_code, files_in};
 
     ghost Value = { Files };
 
-    ghost coded = { finite.code (coded_list coded_ℕ) (coded_list coded_ℕ) };
+    ghost coded = { files_code };
 
     ghost view = { λ store. files_in store.files };
 }

@@ -14,7 +14,7 @@ pub trait Source {
     ghost fault_count: { Self → ℕ };
 
     /// Takes bytes to the front of the buffer and returns how many; 0 for a buffer that has room only at the end.
-    /// What the buffer holds behind them is left open.
+    /// What the buffer holds behind them is left open, and all of it after an `Err`.
     fn take(&mut self, buffer: &mut [u8]) -> Result<usize, Failed>
         ensures taken { IfOk result (λ count. Takes (left self.old) buffer.old count (left self.new) buffer.new) }
         ensures same { OnErr result (left self.new ≡ left self.old) }

@@ -5,5 +5,6 @@ pub mod FirstSome
 pub mod Spaces
 pub mod Cells
 pub mod Bytes
+pub mod Filling
 pub mod Turns
 pub mod RunLaws

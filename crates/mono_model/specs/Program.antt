@@ -35,7 +35,7 @@ program_header size =
     (to_le_bytes w64 size ++ (to_le_bytes w64 size ++ (0 ∷ 0x10 ∷ 0 ∷ 0 ∷ 0 ∷ 0 ∷ 0 ∷ 0 ∷ [])))
 
 -- The two headers, 120 bytes.
-abbrev pub headers : ℕ → List ℕ
+unfoldable pub headers : ℕ → List ℕ
 headers size = elf_header ++ program_header size
 
 -- A segment of 4 bytes to 1 MiB behind the headers.

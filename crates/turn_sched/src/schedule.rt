@@ -155,6 +155,13 @@ impl Schedule {
         self.current
     }
 
+    /// Whether a thread rests: it is suspended or current.
+    pub fn rests(&self, key: u64) -> bool
+        ensures { result ≡ (contains self.now.suspended key || is_at key self.now.current) }
+    {
+        self.suspended.contains(&key) | (self.current == Some(key))
+    }
+
     /// Makes the ready thread at place `word`, modulo how many are ready, the current one; `None` where none is
     /// ready.
     pub fn pick(&mut self, word: u64) -> Option<u64>

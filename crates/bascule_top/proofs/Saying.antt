@@ -1,0 +1,109 @@
+-- What the end of a start, and of its run, says of the outcome.
+use Rattle.std.proofs.Common.{◌≡◌, ℕ, ◌+◌, ◌%◌, ◌^◌, List, [], ◌∷◌, refl, sym, ◌∙◌, ap, subst}
+use Rattle.std.specs.declared.option.Option.{Option}
+use Rattle.std.specs.declared.option.Option.TheVariants.{None, Some}
+use Rattle.bas_edge.specs.Files.{file_of}
+use Rattle.abi_calls.specs.Objects.{Objects}
+use Rattle.abi_calls.specs.World.{Contents, Told}
+use Rattle.abi_calls.specs.Fresh.{IsFreshWorld}
+use Rattle.abi_calls.specs.Sound.{IsSound}
+use Rattle.mono_model.specs.Machine.{Mono}
+use Rattle.mono_model.specs.Program.{Program, program_of}
+use Rattle.mono_model.specs.Starting.{Started, Runs, NoProgram, BadProgram, boot, blank, started_if, started_with, begun_from}
+use Rattle.mono_model.specs.Turns.{End, run_of, Ending}
+use Rattle.libos_state.specs.declared.state.LibOs.{LibOs}
+use Rattle.libos_state.specs.declared.state.Boot.{Boot}
+use Rattle.libos_state.specs.declared.state.Boot.TheVariants as boots
+use Rattle.libos_state.specs.declared.cont.Cont.{Cont}
+use Rattle.libos_state.specs.declared.notes.ElfError.{ElfError}
+use Rattle.libos_state.specs.Entered.{booting}
+use Rattle.libos_state.specs.Records.{base}
+use Rattle.libos_state.specs.Meaning.{meaning, meant, meant_idle}
+use Rattle.libos_state.specs.Fits.{Fits, FitsCont, FitsBoot, exit_code}
+use Rattle.libos_state.proofs.Keeping.{Stands}
+use Rattle.libos_state.proofs.Beginning.{CanBoot, boot_fits}
+use Rattle.turn_engine.specs.WhereTold.{WhereTold, world, whole}
+use Rattle.turn_engine.specs.Serves.{Serves, IsUp}
+use Rattle.turn_engine.proofs.Steps.{settled_up, meaning_up}
+use Rattle.turn_engine.proofs.Telling.{told_then}
+use Rattle.bascule_top.specs.Commands.{TURNS, start_settings, start_job}
+use Rattle.bascule_top.specs.Runs.{EndsRun, end_by}
+use Rattle.bascule_top.specs.Outcomes.{Agrees, RunsTo, IsNoProgram}
+
+-- a start that is served to its end stands for the machine's start
+pub start_means : (name : List ℕ) (os os' : LibOs) (o o' : Objects) (t t' : Told) (answered : ℕ)
+    → CanBoot name [] start_settings → IsFreshWorld o answered → IsSound o → os ≡ booting name [] start_settings → Serves os o t os' o' t'
+    → WhereTold t t' (λ x y. meaning os' (world o' y) ≡ boot start_settings x (start_job name))
+start_means name os os' o o' t t' answered can fresh sound is serves = record {
+  holds = λ x e.
+      let a = serves.means.holds x e in
+      (a.0, a.1, a.2 ∙ ap (λ (s : LibOs). meaning s (world o x)) is ∙ (boot_fits name [] start_settings (world o x) answered can fresh sound).means);
+}
+
+runs_same : (m n : Mono) → Runs m ≡ Runs n → m ≡ n
+runs_same m n e = cc
+
+-- the run's last state is the world's
+pub run_says : (name : List ℕ) (end : End) (os' os'' : LibOs) (o' o'' : Objects) (t t' t'' : Told)
+    → WhereTold t t' (λ x y. meaning os' (world o' y) ≡ boot start_settings x (start_job name)) → IsUp os' o'
+    → EndsRun TURNS os' o' t' os'' o'' t'' → end_by (exit_code os'') ≡ end → WhereTold t t'' (RunsTo name end o'')
+run_says name end os' os'' o' o'' t t' t'' start up run is = record {
+  holds = λ x e.
+      let a = start.holds x e in
+      let b = run.means.holds a.0 a.1 in
+      let booted : boot start_settings x (start_job name) ≡ Runs (base os' (world o' a.0)) = sym a.2 ∙ meaning_up os' o' (world o' a.0) up in
+      let last : base os'' (world o'' b.0) ≡ (run_of TURNS (base os' (world o' a.0))).last = sym (ap (λ (r : Ending). r.last) b.2) in (
+        b.0,
+        b.1,
+        record {
+          machine = base os' (world o' a.0);
+          booted = booted;
+          ends = ap (λ (r : Ending). r.end) b.2 ∙ is;
+          agrees = record { records = os''; fit = run.up; same = last };
+          files = ap (λ (m : Mono). m.files) last;
+          input = ap (λ (m : Mono). m.input) last;
+          output = ap (λ (m : Mono). m.output) last;
+          errors = ap (λ (m : Mono). m.errors) last;
+        },
+      );
+}
+
+no_file : (m : Mono) (args : List (List ℕ)) (file : Option (List ℕ)) → started_if m args file ≡ NoProgram → file ≡ None
+no_file m args None e = refl
+no_file m args (Some file) e = absurd (not_missing (program_of file) e)
+  where
+    not_missing : (p : Option Program) → begun_from m args p ≡ NoProgram → ⊥
+    not_missing None q = cc
+    not_missing (Some p) q = cc
+
+bad_file : (name : List ℕ) (x : Contents) (m : Mono) (args : List (List ℕ)) (file : Option (List ℕ)) → file_of x.files name ≡ file → started_if m args file ≡ BadProgram → IsNoProgram name x
+bad_file name x m args None is e = absurd (cc)
+bad_file name x m args (Some file) is e = record { file = file; there = is; refused = not_runs (program_of file) e }
+  where
+    not_runs : (p : Option Program) → begun_from m args p ≡ BadProgram → p ≡ None
+    not_runs None q = refl
+    not_runs (Some p) q = absurd (cc)
+
+meant_none : (os : LibOs) (w : _) (cont : Option Cont) (b : Boot) → cont ≡ None → os.boot ≡ b → meant os w cont ≡ meant_idle os w b
+meant_none os w None b none is = ap (meant_idle os w) is
+meant_none os w (Some c) b none is = absurd (cc)
+
+-- there is no file of the name
+pub none_says : (name : List ℕ) (os' : LibOs) (o' : Objects) (t t' : Told)
+    → WhereTold t t' (λ x y. meaning os' (world o' y) ≡ boot start_settings x (start_job name)) → os'.cont ≡ None → os'.boot ≡ boots.NoProgram
+    → WhereTold t t' (λ x y. file_of x.files name ≡ None)
+none_says name os' o' t t' start none is = record {
+  holds = λ x e.
+      let a = start.holds x e in
+      (a.0, a.1, no_file (blank start_settings (record { turns = 0; pick = 0; random = 0 }) x) (name ∷ []) (file_of x.files name) (sym a.2 ∙ meant_none os' (world o' a.0) os'.cont boots.NoProgram none is));
+}
+
+-- the file is no program
+pub bad_says : (name : List ℕ) (os' : LibOs) (o' : Objects) (t t' : Told) (cause : ElfError)
+    → WhereTold t t' (λ x y. meaning os' (world o' y) ≡ boot start_settings x (start_job name)) → os'.cont ≡ None → os'.boot ≡ boots.BadProgram cause
+    → WhereTold t t' (λ x y. IsNoProgram name x)
+bad_says name os' o' t t' cause start none is = record {
+  holds = λ x e.
+      let a = start.holds x e in
+      (a.0, a.1, bad_file name x (blank start_settings (record { turns = 0; pick = 0; random = 0 }) x) (name ∷ []) (file_of x.files name) refl (sym a.2 ∙ meant_none os' (world o' a.0) os'.cont (boots.BadProgram cause) none is));
+}

@@ -1,0 +1,58 @@
+-- What each outcome of a command says, in both directions: every line excludes the others.
+use Rattle.std.specs.Prelude.{◌≡◌, ℕ, List, []}
+use Rattle.std.specs.declared.option.Option.{Option}
+use Rattle.std.specs.declared.option.Option.TheVariants.{None, Some}
+use Rattle.bas_edge.specs.Files.{file_of}
+use Rattle.abi_calls.specs.Objects.{Objects}
+use Rattle.abi_calls.specs.World.{Contents, Told}
+use Rattle.mono_model.specs.Machine.{Mono}
+use Rattle.mono_model.specs.Program.{program_of}
+use Rattle.mono_model.specs.Starting.{Runs, boot}
+use Rattle.mono_model.specs.Turns as mono
+use Rattle.mono_model.specs.Turns.{End, run_of}
+use Rattle.libos_state.specs.declared.state.LibOs.{LibOs}
+use Rattle.libos_state.specs.Records.{base}
+use Rattle.turn_engine.specs.WhereTold.{WhereTold, world}
+use Rattle.turn_engine.specs.Serves.{IsUp}
+use Rattle.bascule_top.specs.declared.outcome.Outcome.{Outcome}
+use Rattle.bascule_top.specs.declared.outcome.Outcome.TheVariants.{Exited, Bound, NoProgram, BadProgram, BadWords, HostFault, OutOfMemory}
+use Rattle.bascule_top.specs.Commands.{TURNS, start_settings, start_job}
+
+-- A world agrees with the machine where some records, which fit its objects, name that machine in it: its processes,
+-- threads, open descriptions, ready threads and positions, and its files, input, output and errors.
+pub record Agrees (o : Objects) (y : Contents) (m : Mono) : Type 0 where
+  pub records : LibOs
+  pub fit : IsUp records o
+  pub same : base records (world o y) ≡ m
+
+-- The program's start over these contents is a machine whose run of so many turns ends so, and the contents and the
+-- world after are those of its last state.
+pub record RunsTo (name : List ℕ) (end : End) (o : Objects) (x y : Contents) : Type 0 where
+  pub machine : Mono
+  pub booted : boot start_settings x (start_job name) ≡ Runs machine
+  pub ends : (run_of TURNS machine).end ≡ end
+  pub agrees : Agrees o y (run_of TURNS machine).last
+  pub files : y.files ≡ (run_of TURNS machine).last.files
+  pub input : y.input ≡ (run_of TURNS machine).last.input
+  pub output : y.output ≡ (run_of TURNS machine).last.output
+  pub errors : y.errors ≡ (run_of TURNS machine).last.errors
+
+-- There is a file of the name, and it is no program.
+pub record IsNoProgram (name : List ℕ) (x : Contents) : Type 0 where
+  pub file : List ℕ
+  pub there : file_of x.files name ≡ Some file
+  pub refused : program_of file ≡ None
+
+abbrev pub Says : Outcome → List ℕ → Told → Objects → Told → Type 0
+Says (Exited code) name told o' told' = WhereTold told told' (RunsTo name (mono.Exited code) o')
+Says (Bound turns) name told o' told' = (turns ≡ TURNS) × (o'.positions.turns ≡ TURNS) × WhereTold told told' (RunsTo name mono.Bound o')
+Says (NoProgram named) name told o' told' = (named ≡ name) × WhereTold told told' (λ x y. file_of x.files name ≡ None)
+Says (BadProgram cause) name told o' told' = WhereTold told told' (λ x y. IsNoProgram name x)
+Says BadWords name told o' told' = ⊥
+Says HostFault name told o' told' = Unit {0}
+Says OutOfMemory name told o' told' = Unit {0}
+
+-- Words that are no command are refused, and nothing is done; a start says what its outcome says.
+abbrev pub Headline : Outcome → Option (List ℕ) → Objects → Told → Objects → Told → Type 0
+Headline outcome None o told o' told' = (outcome ≡ BadWords) × (o' ≡ o) × (told' ≡ told)
+Headline outcome (Some name) o told o' told' = Says outcome name told o' told'

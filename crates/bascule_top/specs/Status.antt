@@ -1,0 +1,13 @@
+-- The exit status of each outcome.
+use Rattle.std.specs.Prelude.{ℕ}
+use Rattle.bascule_top.specs.declared.outcome.Outcome.{Outcome}
+use Rattle.bascule_top.specs.declared.outcome.Outcome.TheVariants.{Exited, Bound, NoProgram, BadProgram, BadWords, HostFault, OutOfMemory}
+
+abbrev pub status_of : Outcome → ℕ
+status_of (Exited code) = code
+status_of (Bound turns) = 230
+status_of BadWords = 233
+status_of (NoProgram name) = 239
+status_of (BadProgram cause) = 240
+status_of HostFault = 246
+status_of OutOfMemory = 249

@@ -1,0 +1,5 @@
+pub mod Entries
+pub mod Tied
+pub mod Counts
+pub mod Lists
+pub mod Rows

@@ -1,0 +1,5 @@
+pub mod Numbers
+pub mod Counting
+pub mod Handles
+pub mod Objects
+pub mod Streams

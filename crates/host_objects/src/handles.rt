@@ -1,0 +1,114 @@
+ghost use Rattle.std.specs.Prelude.{◌≡◌, ℕ, ◌^◌, ◌<◌, ◌↔◌, length, IsTrue, IsSome, IfOk, OnErr};
+ghost use Rattle.std.specs.Option.{option_copied};
+ghost use Rattle.std.specs.FinMap as map;
+ghost use Rattle.std.specs.Map.Iter.{ShowsInOrder, deref, deref_pair};
+ghost use Rattle.host_objects.specs.Numbers.{IsUnused};
+ghost use Rattle.host_objects.specs.Handles.{Adds};
+
+use crate::numbers::Numbers;
+use crate::table::Table;
+use bas_edge::Memory;
+use std::alloc::Global;
+use std::collections::btree_map::{Iter, Values};
+use std::marker::Model;
+
+/// Values under numbers that are given when a value is added and taken back when it goes.
+#[derive(Drop)]
+pub struct Handles<N: Numbers, V> {
+    numbers: N,
+    table: Table<V>,
+}
+
+impl<N: Numbers, V> Model for Handles<N, V> {
+    ghost use Rattle.std.specs.Ordering.{nat_cmp};
+    ghost use Rattle.std.specs.FinMap as map;
+    ghost use Rattle.std.specs.Coded.{coded_ℕ};
+    ghost use Rattle.host_objects.specs.Handles.{Ties};
+
+    ghost Value = { map.FinMap nat_cmp V };
+
+    ghost coded = { map.code coded_ℕ V.code };
+
+    ghost view = { λ h. h.table };
+
+    ghost invariant = { λ h. Ties (N.is_live h.numbers) h.table };
+}
+
+impl<N: Numbers + Drop, V: Drop> Handles<N, V> {
+    /// No value, over numbers of which none is live.
+    pub fn new(alloc: Global, numbers: N) -> Handles<N, V>
+        requires { IsUnused (N.is_live numbers) }
+        ensures { result ≡ map.empty }
+    {
+        Handles {
+            numbers,
+            table: Table::new(alloc),
+        }
+    }
+
+    /// The value under a number.
+    #[inline]
+    pub fn get(&self, number: u64) -> Option<&V>
+        ensures { option_copied result ≡ map.get self.now number }
+    {
+        self.table.get(number)
+    }
+
+    /// Adds a value under a new number. After an `Err` the value is dropped.
+    pub fn add(&mut self, value: V) -> Result<u64, Memory>
+        ensures added { IfOk result (Adds self.old value self.new) }
+        ensures same { OnErr result (self.new ≡ self.old) }
+    {
+        let number = self.numbers.give()?;
+        match self.table.insert(number, value) {
+            Ok(()) => Ok(number),
+            Err(error) => {
+                self.numbers.back(number);
+                Err(error)
+            }
+        }
+    }
+
+    /// Puts a value in the place of the one under a number. Takes no memory.
+    pub fn set(&mut self, number: u64, value: V)
+        requires { IsSome (map.get self.old number) }
+        ensures { self.new ≡ map.insert self.old number value }
+    {
+        match self.table.insert(number, value) {
+            Ok(()) => {}
+            Err(_) => unreachable!(),
+        }
+    }
+
+    /// Ends a number with the value under it.
+    pub fn end(&mut self, number: u64)
+        ensures { self.new ≡ map.remove self.old number }
+    {
+        self.table.remove(number);
+        self.numbers.back(number);
+    }
+
+    /// The numbers with their values, by rising number.
+    pub fn iter(&self) -> Iter<'_, u64, V>
+        ensures rest { result ≡ map.entries self.now }
+        ensures runs { ShowsInOrder (deref_pair {K = ℕ} {X = V}) }
+    {
+        self.table.iter()
+    }
+
+    /// The values, by rising number.
+    pub fn values(&self) -> Values<'_, u64, V>
+        ensures rest { result ≡ map.values self.now }
+        ensures runs { ShowsInOrder (deref {X = V}) }
+        ensures fits { length result < 2 ^ 63 }
+    {
+        self.table.values()
+    }
+
+    /// Whether there is no value.
+    pub fn is_empty(&self) -> bool
+        ensures { IsTrue result ↔ (self.now ≡ map.empty) }
+    {
+        self.table.is_empty()
+    }
+}

@@ -1,0 +1,19 @@
+//! The objects of a host: processes with their pages, threads, events and open streams, each under a number,
+//! the lists of threads, and the calls and turns that need nothing of the outside.
+#![tactic(auto)]
+
+mod counting;
+mod handles;
+mod kinds;
+mod numbers;
+mod objects;
+mod processes;
+mod settings;
+mod streams;
+mod table;
+mod threads;
+
+pub use counting::Counting;
+pub use handles::Handles;
+pub use numbers::Numbers;
+pub use objects::Objects;

@@ -1,0 +1,91 @@
+ghost use Rattle.std.specs.Prelude.{◌≡◌, ℕ, ◌^◌, ◌<◌, ◌↔◌, length, IsTrue, IsSome, IfOk, OnOk, OnErr};
+ghost use Rattle.std.specs.Option.{option_copied};
+ghost use Rattle.std.specs.Ordering.{nat_cmp};
+ghost use Rattle.std.specs.FinMap as map;
+ghost use Rattle.std.specs.Map.Iter.{ShowsInOrder, deref, deref_pair};
+
+use bas_edge::Memory;
+use std::alloc::Global;
+use std::collections::BTreeMap;
+use std::collections::btree_map::{Iter, Values};
+use std::marker::Model;
+
+/// A map from numbers to values.
+#[derive(Drop)]
+pub(crate) struct Table<V> {
+    entries: BTreeMap<u64, V>,
+}
+
+impl<V> Model for Table<V> {
+    ghost use Rattle.std.specs.Ordering.{nat_cmp};
+    ghost use Rattle.std.specs.FinMap as map;
+    ghost use Rattle.std.specs.Coded.{coded_ℕ};
+
+    ghost Value = { map.FinMap nat_cmp V };
+
+    ghost coded = { map.code coded_ℕ V.code };
+
+    ghost view = { λ t. map.from_entries t.entries.entries };
+}
+
+impl<V: Drop> Table<V> {
+    /// A map of nothing.
+    pub(crate) fn new(alloc: Global) -> Table<V>
+        ensures { result ≡ map.empty }
+    {
+        Table {
+            entries: BTreeMap::new(alloc),
+        }
+    }
+
+    /// The value of a number.
+    #[inline]
+    pub(crate) fn get(&self, number: u64) -> Option<&V>
+        ensures { option_copied result ≡ map.get self.now number }
+    {
+        self.entries.get(&number)
+    }
+
+    /// Sets the value of a number. Memory can be wanting only for a number that has none.
+    pub(crate) fn insert(&mut self, number: u64, value: V) -> Result<(), Memory>
+        ensures ok { OnOk result (self.new ≡ map.insert self.old number value) }
+        ensures err { OnErr result (self.new ≡ self.old) }
+        ensures absent { OnErr result (map.get self.old number ≡ None) }
+    {
+        match self.entries.insert(number, value) {
+            Ok(_) => Ok(()),
+            Err(_) => Err(Memory),
+        }
+    }
+
+    /// Takes a number out.
+    pub(crate) fn remove(&mut self, number: u64)
+        ensures { self.new ≡ map.remove self.old number }
+    {
+        self.entries.remove(&number);
+    }
+
+    /// The numbers with their values, by rising number.
+    pub(crate) fn iter(&self) -> Iter<'_, u64, V>
+        ensures rest { result ≡ map.entries self.now }
+        ensures runs { ShowsInOrder (deref_pair {K = ℕ} {X = V}) }
+    {
+        self.entries.iter()
+    }
+
+    /// The values, by rising number.
+    pub(crate) fn values(&self) -> Values<'_, u64, V>
+        ensures rest { result ≡ map.values self.now }
+        ensures runs { ShowsInOrder (deref {X = V}) }
+        ensures fits { length result < 2 ^ 63 }
+    {
+        self.entries.values()
+    }
+
+    /// Whether there is no number.
+    pub(crate) fn is_empty(&self) -> bool
+        ensures { IsTrue result ↔ (self.now ≡ map.empty) }
+    {
+        self.entries.is_empty()
+    }
+}

@@ -1,0 +1,59 @@
+-- The stack's pages are made, and the argument block is written into them.
+use Rattle.std.specs.Prelude.{◌≡◌, ◌+◌, ◌≤◌, [], length}
+use Rattle.std.specs.FinMap.{len}
+use Rattle.std.proofs.Common.{refl, sym, ap, ◌∙◌, arith}
+use Rattle.guest_space.specs.Space.{memory_of, with_run}
+use Rattle.guest_space.specs.Access.{with_bytes}
+use Rattle.guest_space.proofs.Filling.{first_held-none, first_fault-none}
+use Rattle.abi_calls.specs.declared.reply.Reply.{Reply}
+use Rattle.abi_calls.specs.declared.reply.Reply.TheVariants.{Done}
+use Rattle.abi_calls.specs.World.{World}
+use Rattle.abi_calls.specs.Memory.{with_pages}
+use Rattle.abi_calls.specs.Abi.{Abi, answer}
+use Rattle.abi_calls.specs.Sound.{IsSound}
+use Rattle.mono_model.specs.Program.{page_count}
+use Rattle.mono_model.specs.Starting.{STACK_PAGE, STACK_PAGES, stack_pointer, argument_block, stacked, with_block, filled_from}
+use Rattle.mono_model.proofs.Sizes.{block_stands}
+use Rattle.libos_state.specs.declared.cont.Cont.{Cont}
+use Rattle.libos_state.specs.declared.cont.Stage.TheVariants.{AllocateStack, WriteBlock, CreateThread}
+use Rattle.libos_state.specs.declared.state.LibOs.{LibOs}
+use Rattle.libos_state.specs.Pending.{arguments, asked, file_or_child}
+use Rattle.libos_state.specs.Meaning.{begins_with}
+use Rattle.libos_state.specs.Fits.{FitsStage}
+use Rattle.libos_state.proofs.Holds.{Holds}
+use Rattle.libos_state.proofs.Keeping.{by_row}
+use Rattle.libos_state.proofs.Pages.{pages_filled, pages_stacked, has_stack, has_no_stack, allocate_row, write_row, child_was, child_is, pages_go_on}
+use Rattle.libos_state.proofs.Loading.{run_size}
+
+pub keeps_allocate_stack : (os : LibOs) (c : Cont) (w w' : World) (r : Reply) → FitsStage os w.objects c AllocateStack → IsSound w.objects → Abi w (asked os c AllocateStack) r w' → Holds os c AllocateStack w r w'
+keeps_allocate_stack os c w w' r fits sound abi =
+    let p = file_or_child c in
+    let s = fits.child.memory in
+    let few = (run_size c fits.child.plain).few in
+    let none = first_held-none s STACK_PAGE STACK_PAGES (λ q low _. has_no_stack s (page_count c.bytes) 7 q fits.pages few low) in
+    let room : len s + STACK_PAGES ≤ 1024 = let held = fits.pages.held in omega arith in
+    let new = with_run s STACK_PAGE STACK_PAGES 3 in
+    let row : answer w (asked os c AllocateStack) r ≡ (Done, with_pages w p new) = allocate_row w p s fits.child.child STACK_PAGE STACK_PAGES 3 refl refl none room in
+    by_row os c AllocateStack w w' r (Done, with_pages w p new) abi row
+    (record {
+      fits = pages_go_on os w.objects c WriteBlock [] new 7 STACK_PAGES fits.child (pages_stacked s (page_count c.bytes) few fits.pages);
+      means = ap (λ m. begins_with w c (with_block m (arguments c))) (child_is w.objects p new)
+          ∙ sym (ap (λ m. begins_with w c (stacked m (arguments c))) (child_was w c s fits.child.child));
+    })
+
+pub keeps_write_block : (os : LibOs) (c : Cont) (w w' : World) (r : Reply) → FitsStage os w.objects c WriteBlock → IsSound w.objects → Abi w (asked os c WriteBlock) r w' → Holds os c WriteBlock w r w'
+keeps_write_block os c w w' r fits sound abi =
+    let p = file_or_child c in
+    let s = fits.child.memory in
+    let args = arguments c in
+    let names = fits.child.start.names in
+    let few = (run_size c fits.child.plain).few in
+    let block = block_stands args names.few names.args in
+    let free = first_fault-none s STACK_PAGE STACK_PAGES 3 2 (stack_pointer args) (length (argument_block args)) (λ q low high. has_stack s (page_count c.bytes) 7 q fits.pages few low high) refl block.above block.below in
+    let new = filled_from s (stack_pointer args) (argument_block args) in
+    let row : answer w (asked os c WriteBlock) r ≡ (Done, with_pages w p new) = write_row w p s fits.child.child (stack_pointer args) (argument_block args) block.small free in
+    by_row os c WriteBlock w w' r (Done, with_pages w p new) abi row
+    (record {
+      fits = (pages_go_on os w.objects c CreateThread [] new 7 STACK_PAGES fits.child (pages_filled s (with_bytes (memory_of s) (stack_pointer args) (argument_block args)) (page_count c.bytes) 7 STACK_PAGES fits.pages)).child;
+      means = ap (λ m. begins_with w c m) (child_is w.objects p new) ∙ sym (ap (λ m. begins_with w c (with_block m args)) (child_was w c s fits.child.child));
+    })

@@ -1,0 +1,84 @@
+-- How large a program's pages and the argument block are, and where the block stands.
+use Rattle.std.specs.Prelude.{◌≡◌, ℕ, ◌+◌, ◌-◌, ◌*◌, ◌/◌, ◌^◌, ◌≤◌, true, ◌&&◌, nat_le, List, [], ◌∷◌, ◌++◌, length, take, drop, replicate, sum_by}
+use Rattle.std.specs.List.{list_all, flat_map}
+use Rattle.std.specs.Int.{to_le_bytes, w64}
+use Rattle.std.specs.Str.{bytes_eq}
+use Rattle.std.proofs.Common.{refl, ◌∙◌, arith, leb-true, length-append, length-drop}
+use Rattle.std.proofs.lemmas.Bool.{and_parts}
+use Rattle.std.proofs.lemmas.List.{length-replicate, length_push}
+use Rattle.std.proofs.lemmas.List.Sums.{sum_by-cons}
+use Rattle.mono_model.specs.Program.{is_plain, headers, page_count, page_bytes, plain_run}
+use Rattle.mono_model.specs.Starting.{STACK_PAGE, STACK_PAGES, STACK_END, block_size, stack_pointer, pointers, block_at, argument_block, pages_in}
+
+-- ---- a program file, and its pages
+
+pub record HasPlainSize (file : List ℕ) : Type 0 where
+  pub least : 124 ≤ length file
+  pub most : length file ≤ 120 + 2 ^ 20
+
+pub plain_size : (file : List ℕ) → is_plain file ≡ true → HasPlainSize file
+plain_size file plain =
+    let parts = and_parts (nat_le 124 (length file)) (nat_le (length file) (120 + 2 ^ 20) && bytes_eq (take 120 file) (headers (length file - 120))) plain in
+    let rest = and_parts (nat_le (length file) (120 + 2 ^ 20)) (bytes_eq (take 120 file) (headers (length file - 120))) parts.1 in
+    record { least = leb-true 124 (length file) parts.0; most = leb-true (length file) (120 + 2 ^ 20) rest.0 }
+
+three_parts : (xs ys zs : List ℕ) → length (xs ++ (ys ++ zs)) ≡ length xs + (length ys + length zs)
+three_parts xs ys zs = omega (arith, length-append xs (ys ++ zs), length-append ys zs)
+
+padded : (size count front tail pad : ℕ) → 120 ≤ size → size ≤ count → front ≡ 120 → tail ≡ size - 120 → pad ≡ count - size → front + (tail + pad) ≡ count
+padded size count front tail pad long within z t p = omega arith
+
+-- A program's pages are whole pages.
+pub length-page_bytes : (file : List ℕ) → 120 ≤ length file → length (page_bytes file) ≡ page_count file * 4096
+length-page_bytes file long =
+    three_parts (replicate 120 0) (drop 120 file) (replicate (page_count file * 4096 - length file) 0)
+    ∙ padded (length file) (page_count file * 4096) _ _ _ long (omega arith) (length-replicate {A = ℕ} 120 0) (length-drop 120 file) (length-replicate {A = ℕ} (page_count file * 4096 - length file) 0)
+
+whole_pages : (n size : ℕ) → size ≡ n * 4096 → size / 4096 ≡ n
+whole_pages n size is = omega arith
+
+pub pages_in_plain : (file : List ℕ) → 120 ≤ length file → pages_in (plain_run file) ≡ page_count file
+pages_in_plain file long = whole_pages (page_count file) (length (page_bytes file)) (length-page_bytes file long)
+
+-- ---- the argument block
+
+pub length-pointers : (at : ℕ) (args : List (List ℕ)) → length (pointers at args) ≡ 8 * length args
+length-pointers at [] = refl
+length-pointers at (arg ∷ args) = omega (arith, length-append (to_le_bytes w64 at) (pointers (at + length arg + 1) args), length-pointers (at + length arg + 1) args)
+
+pub length-texts : (args : List (List ℕ)) → length (flat_map (λ arg. arg ++ 0 ∷ []) args) ≡ sum_by (λ arg. length arg + 1) args
+length-texts [] = refl
+length-texts (arg ∷ args) =
+    omega (arith, length-append (arg ++ 0 ∷ []) (flat_map (λ arg. arg ++ 0 ∷ []) args), length_push arg 0, length-texts args, sum_by-cons (λ (arg : List ℕ). length arg + 1) arg args)
+
+pub length-block_at : (sp : ℕ) (args : List (List ℕ)) → length (block_at sp args) ≡ block_size args
+length-block_at sp args =
+    let texts = flat_map (λ arg. arg ++ 0 ∷ []) args in
+    let words = pointers (sp + 8 * (length args + 3)) args in
+    omega (arith, length-append (to_le_bytes w64 (length args)) (words ++ (replicate 16 0 ++ texts)), length-append words (replicate 16 0 ++ texts), length-append (replicate 16 0) texts, length-pointers (sp + 8 * (length args + 3)) args, length-texts args)
+
+pub length-argument_block : (args : List (List ℕ)) → length (argument_block args) ≡ block_size args
+length-argument_block args = length-block_at (stack_pointer args) args
+
+texts_small : (args : List (List ℕ)) → list_all (λ arg. nat_le (length arg) 80) args ≡ true → sum_by (λ arg. length arg + 1) args ≤ 81 * length args
+texts_small [] small = omega arith
+texts_small (arg ∷ args) small =
+    let parts = and_parts (nat_le (length arg) 80) (list_all (λ arg. nat_le (length arg) 80) args) small in
+    omega (arith, leb-true (length arg) 80 parts.0, texts_small args parts.1, sum_by-cons (λ (arg : List ℕ). length arg + 1) arg args)
+
+-- The block of up to 16 arguments of up to 80 bytes stands within the stack.
+pub record StandsInStack (args : List (List ℕ)) : Type 0 where
+  pub above : STACK_PAGE * 4096 ≤ stack_pointer args
+  pub below : stack_pointer args + length (argument_block args) ≤ (STACK_PAGE + STACK_PAGES) * 4096
+  pub small : length (argument_block args) ≤ 65536
+
+size_fits : (size : ℕ) → size ≤ 1448 → (STACK_PAGE * 4096 ≤ (STACK_END - size) / 16 * 16) × ((STACK_END - size) / 16 * 16 + size ≤ (STACK_PAGE + STACK_PAGES) * 4096)
+size_fits size small = (omega arith, omega arith)
+
+pub block_stands : (args : List (List ℕ)) → length args ≤ 16 → list_all (λ arg. nat_le (length arg) 80) args ≡ true → StandsInStack args
+block_stands args few small =
+    let texts = texts_small args small in
+    let size : block_size args ≤ 1448 = omega arith in
+    let fits = size_fits (block_size args) size in
+    let long = length-argument_block args in
+    record { above = fits.0; below = rw long fits.1; small = rw long (omega arith) }

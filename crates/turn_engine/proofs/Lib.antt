@@ -1,0 +1,5 @@
+pub mod Telling
+pub mod Serving
+pub mod Turns
+pub mod Boots
+pub mod Steps

@@ -1,0 +1,2 @@
+pub mod WhereTold
+pub mod Serves

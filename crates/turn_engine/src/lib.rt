@@ -1,0 +1,2 @@
+//! The machine: the library OS over a host, turn by turn.
+#![tactic(auto)]
