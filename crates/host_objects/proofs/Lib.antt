@@ -3,3 +3,4 @@ pub mod Tied
 pub mod Counts
 pub mod Lists
 pub mod Rows
+pub mod EndedThreads

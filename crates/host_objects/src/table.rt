@@ -1,13 +1,14 @@
-ghost use Rattle.std.specs.Prelude.{◌≡◌, ℕ, ◌^◌, ◌<◌, ◌↔◌, length, IsTrue, IsSome, IfOk, OnOk, OnErr};
+ghost use Rattle.std.specs.Prelude.{◌≡◌, ℕ, ◌^◌, ◌<◌, ◌==◌, ◌↔◌, length, is_some, IsTrue, IsSome, IfOk, OnOk, OnErr};
 ghost use Rattle.std.specs.Option.{option_copied};
 ghost use Rattle.std.specs.Ordering.{nat_cmp};
 ghost use Rattle.std.specs.FinMap as map;
-ghost use Rattle.std.specs.Map.Iter.{ShowsInOrder, deref, deref_pair};
+ghost use Rattle.std.specs.List.{list_any};
+ghost use Rattle.std.specs.Map.Iter.{ShowsInOrder, deref};
 
 use bas_edge::Memory;
 use std::alloc::Global;
 use std::collections::BTreeMap;
-use std::collections::btree_map::{Iter, Values};
+use std::collections::btree_map::{Keys, Values};
 use std::marker::Model;
 
 /// A map from numbers to values.
@@ -65,12 +66,12 @@ impl<V: Drop> Table<V> {
         self.entries.remove(&number);
     }
 
-    /// The numbers with their values, by rising number.
-    pub(crate) fn iter(&self) -> Iter<'_, u64, V>
-        ensures rest { result ≡ map.entries self.now }
-        ensures runs { ShowsInOrder (deref_pair {K = ℕ} {X = V}) }
+    /// The numbers, by rising number.
+    pub(crate) fn numbers(&self) -> Keys<'_, u64, V>
+        ensures runs { ShowsInOrder (deref {X = ℕ}) }
+        ensures has { (q : ℕ) → is_some (map.get self.now q) ≡ list_any (λ k. k == q) result }
     {
-        self.entries.iter()
+        self.entries.keys()
     }
 
     /// The values, by rising number.
