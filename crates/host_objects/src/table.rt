@@ -10,6 +10,7 @@ use std::alloc::Global;
 use std::collections::BTreeMap;
 use std::collections::btree_map::{Keys, Values};
 use std::marker::Model;
+use std::mem;
 
 /// A map from numbers to values.
 #[derive(Drop)]
@@ -56,6 +57,18 @@ impl<V: Drop> Table<V> {
         match self.entries.insert(number, value) {
             Ok(_) => Ok(()),
             Err(_) => Err(Memory),
+        }
+    }
+
+    /// Puts a value in the place of that of a number, which is given back. Takes no memory.
+    pub(crate) fn replace(&mut self, number: u64, value: V) -> V
+        requires { IsSome (map.get self.old number) }
+        ensures before { map.get self.old number ≡ Some result }
+        ensures after { self.new ≡ map.insert self.old number value }
+    {
+        match self.entries.get_mut(&number) {
+            Some(place) => mem::replace(place, value),
+            None => unreachable!(),
         }
     }
 
