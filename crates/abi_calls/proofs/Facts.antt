@@ -1,6 +1,7 @@
 -- What hosts and their callers need of a world that is sound.
 use Rattle.std.specs.Prelude.{◌≡◌, ◌≢◌, ℕ, zero, suc, ◌≤◌, true, false, not, ◌==◌, ◌||◌, [], ◌++◌, map, filter, slice_get, is_some}
 use Rattle.std.specs.List.{list_any}
+use Rattle.std.specs.FinMap.{get, empty}
 use Rattle.std.specs.declared.option.Option.{Option}
 use Rattle.std.specs.declared.option.Option.TheVariants.{None, Some}
 use Rattle.std.proofs.Common.{refl, sym, ap, ◌∙◌, arith, append-nil}
@@ -11,7 +12,8 @@ use Rattle.abi_calls.specs.declared.object.Object.TheVariants.{Process, Thread, 
 use Rattle.abi_calls.specs.Objects.{Object, Objects, object_at, running, contains, mentions, IsFresh}
 use Rattle.abi_calls.specs.Sound.{IsSound, is_some_thread, option_list}
 use Rattle.abi_calls.specs.Turn.{awoken, is_due}
-use Rattle.abi_calls.proofs.ThreadLists.{not_contained, at_contained, all_at}
+use Rattle.abi_calls.proofs.NumberMaps.{get_none}
+use Rattle.abi_calls.proofs.ThreadLists.{all_of_none, not_contained, at_contained, all_at}
 
 -- A number of no object is in no list.
 pub unlisted : (o : Objects) (h : ℕ) → IsSound o → object_at o h ≡ None → mentions o h ≡ false
@@ -67,3 +69,24 @@ ready_thread o place t sound at = home_of o t sound (object_at o t) refl (all_at
 -- So is the current thread.
 pub current_thread : (o : Objects) (t : ℕ) → IsSound o → o.current ≡ Some t → Home o t
 current_thread o t sound at = home_of o t sound (object_at o t) refl (all_at (λ x. is_some_thread (object_at o x)) (option_list o.current) 0 t sound.current (ap (λ c. slice_get (option_list c) 0) at))
+
+-- Without objects no list names a thread.
+pub record NoThreads (o : Objects) : Type 0 where
+  pub ready : o.ready ≡ []
+  pub waiting : o.waiting ≡ []
+  pub suspended : o.suspended ≡ []
+  pub current : o.current ≡ None
+
+unlisted_option : (current : Option ℕ) → option_list current ≡ [] → current ≡ None
+unlisted_option None none = refl
+unlisted_option (Some t) none = absurd (cc)
+
+pub no_threads : (o : Objects) → IsSound o → o.live ≡ empty → NoThreads o
+no_threads o sound none =
+    let fails : (t : ℕ) → is_some_thread (object_at o t) ≡ false = λ t. ap (λ m. is_some_thread (get m t)) none ∙ ap is_some_thread (get_none t) in
+    record {
+      ready = all_of_none (λ t. is_some_thread (object_at o t)) o.ready sound.ready fails;
+      waiting = sound.waiting;
+      suspended = all_of_none (λ t. is_some_thread (object_at o t)) o.suspended sound.suspended fails;
+      current = unlisted_option o.current (all_of_none (λ t. is_some_thread (object_at o t)) (option_list o.current) sound.current fails);
+    }

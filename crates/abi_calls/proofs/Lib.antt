@@ -1,3 +1,10 @@
 pub mod NumberMaps
+pub mod Counts
 pub mod ThreadLists
 pub mod Facts
+pub mod TurnFacts
+pub mod Effects
+pub mod PositionsKept
+pub mod SoundChanges
+pub mod Sounds
+pub mod Worked

@@ -93,3 +93,7 @@ module _ {X : Type 0} where
 
   pub kept_all : (m : FinMap nat_cmp X) (keeps : ℕ → Bool) → ((q : ℕ) (v : X) → get m q ≡ Some v → keeps q ≡ true) → retain_keys m keeps ≡ m
   kept_all m keeps all = same_numbers _ m (λ q. get_kept m keeps q ∙ kept_at (keeps q) (get m q) (all q))
+
+  -- what a map keeps, told number by number
+  pub kept_is : (m n : FinMap nat_cmp X) (keeps : ℕ → Bool) → ((q : ℕ) → get n q ≡ (if keeps q then get m q else None)) → n ≡ retain_keys m keeps
+  kept_is m n keeps is = same_numbers n _ (λ q. is q ∙ sym (get_kept m keeps q))

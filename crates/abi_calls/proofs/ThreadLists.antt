@@ -54,6 +54,11 @@ module _ {X : Type 0} where
   all_at test (y ∷ ys) zero x all at = let same : y ≡ x = cc in subst (λ z. test z ≡ true) same (and_parts (test y) (list_all test ys) all).0
   all_at test (y ∷ ys) (suc place) x all at = all_at test ys place x (and_parts (test y) (list_all test ys) all).1 at
 
+-- a list whose elements all pass a test that nothing passes is empty
+pub all_of_none : {X : Type 0} (test : X → Bool) (xs : List X) → list_all test xs ≡ true → ((x : X) → test x ≡ false) → xs ≡ []
+all_of_none test [] all fails = refl
+all_of_none test (x ∷ xs) all fails = absurd (let passes = (and_parts (test x) (list_all test xs) all).0 in let fails_here = fails x in cc)
+
 -- a number that fails a test which holds of each element isn't in the list
 pub not_contained : (test : ℕ → Bool) (h : ℕ) (xs : List ℕ) → list_all test xs ≡ true → test h ≡ false → contains xs h ≡ false
 not_contained test h [] all fails = refl

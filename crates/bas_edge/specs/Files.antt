@@ -1,6 +1,8 @@
 -- Files by name, and what writing does to the bytes of one.
 use Rattle.std.specs.Prelude.{ℕ, ◌+◌, ◌-◌, ◌≤◌, ◌==◌, if◌then◌else◌, List, [], ◌++◌, length, take, drop, replicate, reverse, Option, option_map, unwrap_or, IsSome, IsNone, IsSomeAnd}
+use Rattle.std.specs.Prelude.{map, Vec, String, string_bytes}
 use Rattle.std.specs.Ordering.{nat_cmp}
+use Rattle.std.specs.BTreeMap.{BTreeMap}
 use Rattle.std.specs.Cmp.Lexicographic.{slice_cmp}
 use Rattle.std.specs.FinMap.{FinMap, get, insert, remove, from_entries}
 
@@ -68,3 +70,15 @@ with_renamed from to files = insert (remove files from) to (file_bytes files fro
 -- The files of a list of names and bytes. Of a name given twice the last entry counts.
 abbrev pub files_of : List (List ℕ × List ℕ) → Files
 files_of entries = from_entries (reverse entries)
+
+-- A name and a text as bytes.
+abbrev pub entry_of : {A : Type 0} → Vec ℕ A × Vec ℕ A → List ℕ × List ℕ
+entry_of entry = (entry.0.items, entry.1.items)
+
+-- The files that a map from names to texts holds.
+abbrev pub files_in : {A : Type 0} → BTreeMap (Vec ℕ A) (Vec ℕ A) → Files
+files_in {A} tree = from_entries (map entry_of tree.entries)
+
+-- A name that is a text, and a text, as bytes.
+abbrev pub text_entry_of : {A : Type 0} → String A × Vec ℕ A → List ℕ × List ℕ
+text_entry_of entry = (string_bytes entry.0, entry.1.items)

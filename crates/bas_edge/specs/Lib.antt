@@ -1,4 +1,5 @@
 pub mod Errors
 pub mod Faults
+pub mod Fetched
 pub mod Files
 pub mod Streams

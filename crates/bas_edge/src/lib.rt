@@ -2,17 +2,23 @@
 //! Each trait has a written meaning and a count of faults, and forms in memory that keep it.
 #![tactic(auto)]
 
+mod calm_shelf;
 mod calm_sink;
 mod calm_source;
+mod calm_store;
 mod errors;
+mod fetched;
 mod shelf;
 mod sink;
 mod source;
 mod store;
 
+pub use calm_shelf::CalmShelf;
 pub use calm_sink::CalmSink;
 pub use calm_source::CalmSource;
+pub use calm_store::CalmStore;
 pub use errors::{EdgeError, Failed, Memory};
+pub use fetched::{fetch, Fetched};
 pub use shelf::Shelf;
 pub use sink::Sink;
 pub use source::Source;

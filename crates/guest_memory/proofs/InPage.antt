@@ -49,7 +49,7 @@ memory_of-put s page frame bytes m elsewhere here = λ i a. at a i
           | inr ne ↦ elsewhere a ne ∙ ap (λ o. cell_in o (a % 4096)) (sym (get-put_there s page (a / 4096) (with_frame_bytes frame bytes) ne))
         ]
 
-cell_of_page : (s : Space) (page k : ℕ) (frame : Frame) → get s page ≡ Some frame → k < 4096 → memory_of s (page * 4096 + k) ≡ Some (record { byte = get_or frame.bytes k 0; rights = frame.rights })
+pub cell_of_page : (s : Space) (page k : ℕ) (frame : Frame) → get s page ≡ Some frame → k < 4096 → memory_of s (page * 4096 + k) ≡ Some (record { byte = get_or frame.bytes k 0; rights = frame.rights })
 cell_of_page s page k frame held h = memory_of-place s page k h ∙ ap (λ o. cell_in o k) held
 
 -- one byte of a page

@@ -2,3 +2,7 @@ pub mod Order
 pub mod InPage
 pub mod Writes
 pub mod Numbers
+pub mod Gaps
+pub mod RefusalLaws
+pub mod Accesses
+pub mod Copies

@@ -1,13 +1,16 @@
 -- Pages in the order of their numbers, and what a look-up in their space finds.
-use Rattle.std.proofs.Common.{◌≡◌, ℕ, zero, suc, ◌<◌, ◌≤◌, ◌==◌, cond, List, [], ◌∷◌, map, length, get_or, set, sym, subst, ap, ◌∙◌, arith, Some, None, Result, Ok, Err, MatchResult, inl, inr}
+use Rattle.std.proofs.Common.{◌+◌, Option, ◌↔◌, ◌≡◌, ℕ, zero, suc, ◌<◌, ◌≤◌, ◌==◌, cond, List, [], ◌∷◌, map, length, get_or, set, sym, subst, ap, ◌∙◌, arith, Some, None, Result, Ok, Err, MatchResult, inl, inr}
 use Rattle.std.proofs.lemmas.Bool.{eq-eqb, ne_eqb, cases_eq, cases_lt}
 use Rattle.std.proofs.lemmas.Bool.Decides.{nat_tests}
 use Rattle.std.specs.List.Sorted.{IsSearchInRange, IsBinarySearchResult}
 use Rattle.std.specs.declared.cmp.Ordering.TheVariants.{Less, Equal, Greater}
 use Rattle.std.specs.Ordering.{nat_cmp, ordering_index}
 use Rattle.std.specs.Cmp.{nat_cmp_total}
-use Rattle.std.specs.FinMap.{get, insert, find, get-empty, get-from_entries}
-use Rattle.guest_space.specs.Space.{IsFrame}
+use Rattle.std.specs.Option.{is_some}
+use Rattle.std.proofs.lemmas.Option.{same_Some}
+use Rattle.std.specs.FinMap.{get, insert, find, len, empty, get-empty, get-from_entries, len-empty, len-insert, empty_of_len}
+use Rattle.guest_space.specs.Space.{Frame, IsFrame, IsSpace}
+use Rattle.guest_space.proofs.Spaces.{IsSpace-empty}
 use Rattle.guest_space.proofs.Gets.{eq_by_nat_cmp}
 use Rattle.guest_space.proofs.Puts.{put-put, put_comm}
 use Rattle.guest_memory.specs.declared.page.Page.{Page}
@@ -47,7 +50,7 @@ get_absent (p ∷ ps) q none = get-cons_there p ps q (λ e. none 0 p (omega arit
 pub IsFound-from_place : (ps : List Page) (q i : ℕ) → AreInOrder ps → IsPlaceOf ps q i → IsFound ps q i
 IsFound-from_place ps q i order place = record { within = place.within; is = place.is; held = λ d. get-place 0 ps q i d order place.within (place.is d) }
 
-pub get_gap : (ps : List Page) (q i : ℕ) → IsGap ps q i → get (space_of ps) q ≡ None
+pub get_gap : (ps : List Page) (q i : ℕ) → IsGap ps q 1 i → get (space_of ps) q ≡ None
 get_gap ps q i gap =
     get_absent ps q
     (λ k d h e. elim (cases_lt k i) [
@@ -82,11 +85,11 @@ equal_to : (a q : ℕ) → nat_cmp a q ≡ Equal → a ≡ q
 equal_to a q e = grind (arith, nat_tests)
 
 -- what a binary search by number finds
-pub place_or_gap : (ps : List Page) (q : ℕ) (r : Result ℕ ℕ) → AreInOrder ps → IsSearchInRange r (length ps) → IsBinarySearchResult (λ p. nat_cmp p.number q) ps r → MatchResult r (IsPlaceOf ps q) (IsGap ps q)
+pub place_or_gap : (ps : List Page) (q : ℕ) (r : Result ℕ ℕ) → AreInOrder ps → IsSearchInRange r (length ps) → IsBinarySearchResult (λ p. nat_cmp p.number q) ps r → MatchResult r (IsPlaceOf ps q) (IsGap ps q 1)
 place_or_gap ps q (Ok i) order bound found = record { within = bound; is = λ d. equal_to _ q (found d) }
 place_or_gap ps q (Err i) order bound found =
     let parts = found (λ k j d low high. index_rises _ _ q (numbers_rise_weakly 0 ps k j d order low high)) in
-    record { within = bound; lower = λ k d h. less_than _ q (parts.0 k d (omega arith) h); higher = λ k d low h. greater_than _ q (parts.1 k d low h) }
+    record { within = bound; lower = λ k d h. less_than _ q (parts.0 k d (omega arith) h); higher = λ k d low h. let more = greater_than _ q (parts.1 k d low h) in omega arith }
 
 -- each page is one that a process may have
 pub IsFrame-at : (n : ℕ) (ps : List Page) (i : ℕ) (d : Page) → AllAbove n ps → i < length ps → IsFrame (get_or ps i d).number (frame_of (get_or ps i d))
@@ -111,3 +114,28 @@ space_of-set n (x ∷ ps) (suc i) p order h same =
     let e = same p in
     ap (λ s. insert s x.number (frame_of x)) (space_of-set x.number ps i p order.2 (omega arith) same)
     ∙ put_comm (space_of ps) x.number p.number (frame_of p) (frame_of x) (λ both. omega arith)
+
+-- how many pages the space has
+pub len-space_of : (n : ℕ) (ps : List Page) → AllAbove n ps → len (space_of ps) ≡ length ps
+len-space_of n [] order = len-empty nat_cmp Frame
+len-space_of n (p ∷ ps) order =
+    let new = get_absent ps p.number (λ i d h e. let a = number_above p.number ps i d order.2 h in omega arith) in
+    len-insert nat_cmp_total (space_of ps) p.number (frame_of p)
+    ∙ ap (λ (o : Option Frame). cond (is_some o) (len (space_of ps)) (len (space_of ps) + 1)) new
+    ∙ ap (λ k. k + 1) (len-space_of p.number ps order.2)
+    ∙ (let e : length ps + 1 ≡ suc (length ps) = omega arith in e)
+
+pub IsSpace-space_of : (n : ℕ) (ps : List Page) → AllAbove n ps → IsSpace (space_of ps)
+IsSpace-space_of n [] order = IsSpace-empty
+IsSpace-space_of n (p ∷ ps) order = record {
+  frames = λ q frame is. elim (cases_eq q p.number) [
+    | inl e ↦
+        let same = same_Some (frame_of p) frame (sym (get-cons_here p ps q e) ∙ is) in
+        subst (IsFrame q) same (subst (λ k. IsFrame k (frame_of p)) (sym e) order.1)
+    | inr ne ↦ (IsSpace-space_of p.number ps order.2).frames q frame (sym (get-cons_there p ps q ne) ∙ is)
+  ];
+}
+
+pub empty_space_of : (n : ℕ) (ps : List Page) → AllAbove n ps → (length ps ≡ 0) ↔ (space_of ps ≡ empty)
+empty_space_of n ps order =
+    (λ e. empty_of_len (space_of ps) (len-space_of n ps order ∙ e), λ e. sym (len-space_of n ps order) ∙ ap len e ∙ len-empty nat_cmp Frame)

@@ -1,5 +1,5 @@
 -- Other bytes in a page of a list, and what the memory then is.
-use Rattle.std.proofs.Common.{◌≡◌, ℕ, suc, ◌+◌, ◌-◌, ◌/◌, ◌%◌, ◌^◌, ◌<◌, ◌≤◌, true, cond, List, length, get_or, set, sym, ap, ◌∙◌, arith}
+use Rattle.std.proofs.Common.{◌≡◌, ℕ, suc, ◌+◌, ◌-◌, ◌/◌, ◌%◌, ◌^◌, ◌<◌, ◌≤◌, true, cond, List, [], length, get_or, set, sym, ap, ◌∙◌, arith}
 use Rattle.std.proofs.lemmas.List.{length-set}
 use Rattle.std.specs.Int.Bits.{bit_and}
 use Rattle.std.specs.Option.{is_some}
@@ -7,6 +7,7 @@ use Rattle.std.specs.FinMap.{insert}
 use Rattle.rv_core.specs.Memory.{Memory, storable, stored, with_byte_at, written}
 use Rattle.guest_space.specs.Space.{memory_of}
 use Rattle.guest_space.proofs.Cells.{place_of_address}
+use Rattle.guest_space.proofs.Runs.{with_frame_rights}
 use Rattle.guest_memory.specs.declared.page.Page.{Page}
 use Rattle.guest_memory.specs.Pages.{frame_of, space_of, AreInOrder, IsFound}
 use Rattle.guest_memory.specs.PageBytes.{with_number}
@@ -67,3 +68,25 @@ memory_of-stored ps at i n value d bytes order found small fits allowed is =
     let number = number_at-in_page (space_of ps) 2 (at / 4096) (at % 4096) n (frame_of (get_or ps i d)) (found.held d) allowed fits (omega arith) in
     let can : storable m at n ≡ true = ap (λ a. storable m a n) (sym p.0) ∙ ap is_some number in
     memory_of-number ps at i n value d bytes order found small fits is ∙ ap (λ b. cond b (written m at n value) m) (sym can)
+
+-- ---- other rights
+abbrev pub with_page_rights : Page → ℕ → Page
+with_page_rights p rights = record { number = p.number; rights = rights; bytes = p.bytes }
+
+pub AreInOrder-with_rights : (ps : List Page) (q i rights : ℕ) (d : Page) → AreInOrder ps → IsFound ps q i → rights < 8 → AreInOrder (set ps i (with_page_rights (get_or ps i d) rights))
+AreInOrder-with_rights ps q i rights d order found below =
+    let old = IsFrame-at 0 ps i d order found.within in
+    AllAbove-set 0 ps i (with_page_rights (get_or ps i d) rights) order found.within (λ e. found.is e ∙ sym (found.is d))
+    (record { above = old.above; below = old.below; whole = old.whole; rights = below })
+
+pub space_of-with_rights : (ps : List Page) (q i rights : ℕ) (d : Page) → AreInOrder ps → IsFound ps q i → space_of (set ps i (with_page_rights (get_or ps i d) rights)) ≡ insert (space_of ps) q (with_frame_rights rights (frame_of (get_or ps i d)))
+space_of-with_rights ps q i rights d order found =
+    space_of-set 0 ps i (with_page_rights (get_or ps i d) rights) order found.within (λ e. found.is e ∙ sym (found.is d))
+    ∙ ap (λ k. insert (space_of ps) k (with_frame_rights rights (frame_of (get_or ps i d)))) (found.is d)
+
+pub found_below : (ps : List Page) (q i : ℕ) → AreInOrder ps → IsFound ps q i → q < 2 ^ 26
+found_below ps q i order found =
+    let d : Page = record { number = 0; rights = 0; bytes = [] } in
+    let below = (IsFrame-at 0 ps i d order found.within).below in
+    let same = found.is d in
+    omega arith

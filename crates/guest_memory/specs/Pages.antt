@@ -1,8 +1,9 @@
 -- Lists of pages by rising number, and the space that they make.
-use Rattle.std.specs.Prelude.{◌≡◌, ℕ, ◌<◌, ◌≤◌, List, [], ◌∷◌, map, length, slice_index_or, Some, None}
+use Rattle.std.specs.Prelude.{◌≡◌, ℕ, ◌+◌, ◌^◌, ◌<◌, ◌≤◌, List, [], ◌∷◌, map, length, slice_index_or, Some, None}
 use Rattle.std.specs.Ordering.{nat_cmp}
 use Rattle.std.specs.FinMap.{from_entries, get}
-use Rattle.guest_space.specs.Space.{Frame, Space, IsFrame}
+use Rattle.guest_space.specs.Space.{Frame, Space, IsFrame, memory_of}
+use Rattle.guest_space.specs.Access.{first_fault}
 use Rattle.guest_memory.specs.declared.page.Page.{Page}
 
 abbrev pub frame_of : Page → Frame
@@ -29,11 +30,11 @@ pub record IsPlaceOf (pages : List Page) (number place : ℕ) : Type 0 where
   pub within : place < length pages
   pub is : (d : Page) → (slice_index_or pages place d).number ≡ number
 
--- The pages before a place have lower numbers, and those from it on have higher ones.
-pub record IsGap (pages : List Page) (number place : ℕ) : Type 0 where
+-- The pages before a place have numbers below those of a run, and those from it on have numbers past it.
+pub record IsGap (pages : List Page) (number count place : ℕ) : Type 0 where
   pub within : place ≤ length pages
   pub lower : (k : ℕ) (d : Page) → k < place → (slice_index_or pages k d).number < number
-  pub higher : (k : ℕ) (d : Page) → place ≤ k → k < length pages → number < (slice_index_or pages k d).number
+  pub higher : (k : ℕ) (d : Page) → place ≤ k → k < length pages → number + count ≤ (slice_index_or pages k d).number
 
 -- The page of a number stands at a place, and the space has it.
 pub record IsFound (pages : List Page) (number place : ℕ) : Type 0 where
@@ -43,3 +44,8 @@ pub record IsFound (pages : List Page) (number place : ℕ) : Type 0 where
 
 abbrev pub IsAbsent : List Page → ℕ → Type 0
 IsAbsent pages number = get (space_of pages) number ≡ None
+
+-- The n bytes from an address on are there.
+pub record AreThere (s : Space) (at n : ℕ) : Type 0 where
+  pub end : at + n < 2 ^ 64
+  pub there : first_fault (memory_of s) 0 at n ≡ None

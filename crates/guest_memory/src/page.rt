@@ -16,3 +16,12 @@ pub const READ: u8 = 1;
 pub const WRITE: u8 = 2;
 
 pub const RUN: u8 = 4;
+
+/// The number after that of the last page that a process may have.
+pub const PAGE_END: u64 = 0x400_0000;
+
+/// The most pages that a process may have.
+pub const MOST_PAGES: usize = 1024;
+
+/// The rights to read, write and run.
+pub const ALL_RIGHTS: u8 = READ + WRITE + RUN;

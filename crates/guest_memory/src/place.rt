@@ -11,9 +11,9 @@ pub const HINTS: usize = 1024;
 pub type Hints = [u16; HINTS];
 
 /// The place of a page by binary search, or the place where it would have to be put.
-fn search(pages: &[Page], number: u64) -> Result<usize, usize>
+pub fn search(pages: &[Page], number: u64) -> Result<usize, usize>
     requires { AreInOrder pages.now }
-    ensures { MatchResult result (IsPlaceOf pages.now number) (IsGap pages.now number) }
+    ensures { MatchResult result (IsPlaceOf pages.now number) (IsGap pages.now number 1) }
 {
     pages.binary_search_by_key(&number, |page| page.number)
 }
@@ -31,5 +31,12 @@ pub fn find(pages: &[Page], hints: &Hints, number: u64) -> Option<usize>
     match search(pages, number) {
         Ok(place) => Some(place),
         Err(_gap) => None,
+    }
+}
+
+/// Notes where the pages from the place `from` on are.
+pub fn note_places(pages: &[Page], hints: &mut Hints, from: usize) {
+    for (place, page) in pages.iter().enumerate().skip(from) {
+        hints[(page.number % HINTS as u64) as usize] = (place % 65536) as u16;
     }
 }

@@ -1,62 +1,24 @@
 -- The memory of a space, byte by byte: what keeps which bytes are there and their rights, and that a space is
 -- determined by its memory.
-use Rattle.std.proofs.Common.{◌≡◌, ℕ, zero, suc, ◌+◌, ◌*◌, ◌/◌, ◌%◌, ◌<◌, ◌^◌, ◌==◌, true, false, cond, List, [], ◌∷◌, length, get_or, refl, sym, ap, ◌∙◌, arith, Option, Some, None}
+use Rattle.std.proofs.Common.{◌≡◌, ℕ, zero, suc, ◌+◌, ◌*◌, ◌/◌, ◌%◌, ◌<◌, List, [], ◌∷◌, length, get_or, refl, sym, ap, ◌∙◌, arith, Option, Some, None}
 use Rattle.std.proofs.lemmas.Grind.{same_number_lists}
 use Rattle.std.proofs.lemmas.Option.{none-some, same_Some}
 use Rattle.std.proofs.lemmas.Nat.{div-mul-add, mod-mul-add}
 use Rattle.std.specs.Option.{option_map}
 use Rattle.std.specs.Cmp.{nat_cmp_total}
 use Rattle.std.specs.FinMap.{get, same_map, nat_cmp-IsAntisymmetric}
-use Rattle.rv_core.specs.Memory.{Memory, Cell, cell_with, with_byte_at, written, stored, storable}
+use Rattle.rv_core.specs.Memory.{Memory, Cell, with_byte_at}
+use Rattle.rv_core.proofs.Rights.{rights_of, SameRights, SameRights-refl, SameRights-trans, SameRights-with_byte_at}
 use Rattle.guest_space.specs.Space.{Space, Frame, IsFrame, IsSpace, cell_in, memory_of, with_memory, bytes_from, byte_or_zero}
 use Rattle.guest_space.specs.Access.{with_bytes}
 use Rattle.guest_space.proofs.Gets.{get-with_memory, frame_of_memory}
 use Rattle.guest_space.proofs.Spaces.{IsSpace-with_memory}
-
--- the rights of the byte at an address, if there is one
-abbrev pub rights_of : Option Cell → Option ℕ
-rights_of c = option_map (λ cell. cell.rights) c
-
--- two memories have bytes at the same addresses, with the same rights
-pub record SameRights (m n : Memory) : Type 0 where
-  pub at : (a : ℕ) → rights_of (n a) ≡ rights_of (m a)
-
-pub SameRights-refl : (m : Memory) → SameRights m m
-SameRights-refl m = record { at = λ a. refl }
-
-pub SameRights-trans : (m n o : Memory) → SameRights m n → SameRights n o → SameRights m o
-SameRights-trans m n o g h = record { at = λ a. h.at a ∙ g.at a }
-
-rights_of-cell_with : (c : Option Cell) (byte : ℕ) → rights_of (cell_with c byte) ≡ rights_of c
-rights_of-cell_with None byte = refl
-rights_of-cell_with (Some cell) byte = refl
-
-pub SameRights-with_byte_at : (m : Memory) (at byte : ℕ) → SameRights m (with_byte_at m at byte)
-SameRights-with_byte_at m at byte = record {
-  at = λ a. elim (a == at) as (λ b. rights_of (cond b (cell_with (m a) byte) (m a)) ≡ rights_of (m a)) [
-    | true ↦ rights_of-cell_with (m a) byte
-    | false ↦ refl
-  ];
-}
 
 pub SameRights-with_bytes : (m : Memory) (at : ℕ) (bytes : List ℕ) → SameRights m (with_bytes m at bytes)
 unfolding with_bytes
 SameRights-with_bytes m at [] = SameRights-refl m
 SameRights-with_bytes m at (byte ∷ bytes) =
     SameRights-trans m (with_byte_at m at byte) _ (SameRights-with_byte_at m at byte) (SameRights-with_bytes (with_byte_at m at byte) (at + 1) bytes)
-
-pub SameRights-written : (m : Memory) (at n value : ℕ) → SameRights m (written m at n value)
-SameRights-written m at zero value = SameRights-refl m
-SameRights-written m at (suc n) value =
-    SameRights-trans m (with_byte_at m at (value % 256)) _ (SameRights-with_byte_at m at (value % 256))
-    (SameRights-written (with_byte_at m at (value % 256)) ((at + 1) % 2 ^ 64) n (value / 256))
-
-pub SameRights-stored : (m : Memory) (at size value : ℕ) → SameRights m (stored m at size value)
-SameRights-stored m at size value =
-    elim (storable m at size) as (λ b. SameRights m (cond b (written m at size value) m)) [
-      | true ↦ SameRights-written m at size value
-      | false ↦ SameRights-refl m
-    ]
 
 -- an address is a place in a page
 pub page_of_place : (page k : ℕ) → k < 4096 → (page * 4096 + k) / 4096 ≡ page

@@ -1,5 +1,5 @@
 -- The first thing that a function gives at numbers that follow one another.
-use Rattle.std.proofs.Common.{◌≡◌, ℕ, zero, suc, ◌+◌, ◌<◌, ◌≤◌, refl, sym, ap, ◌∙◌, arith, Option, Some, None, inl, inr}
+use Rattle.std.proofs.Common.{◌≡◌, ℕ, zero, suc, ◌+◌, ◌-◌, ◌<◌, ◌≤◌, refl, sym, ap, ◌∙◌, arith, Option, Some, None, inl, inr}
 use Rattle.std.proofs.lemmas.Bool.{cases_eq}
 use Rattle.std.proofs.lemmas.Option.{none-some}
 use Rattle.std.specs.Option.{option_map, option_or}
@@ -86,3 +86,13 @@ module _ {A : Type 0} (f : ℕ → Option A) where
   unfolding first_some
   first_some-map g at zero = refl
   first_some-map g at (suc n) = option_map-or g (f at) (first_some f (at + 1) n) ∙ ap (option_or (option_map g (f at))) (first_some-map g (at + 1) n)
+
+  -- ---- a loop that counts up to an end
+  pub first_some-next : (at end : ℕ) → at < end → f at ≡ None → first_some f (at + 1) (end - (at + 1)) ≡ first_some f at (end - at)
+  first_some-next at end h none = sym (ap (first_some f at) (let e : end - at ≡ end - (at + 1) + 1 = omega arith in e) ∙ first_some-skip at (end - (at + 1)) none)
+
+  pub first_some-stop : (at end : ℕ) (x : A) → at < end → f at ≡ Some x → first_some f at (end - at) ≡ Some x
+  first_some-stop at end x h is = ap (first_some f at) (let e : end - at ≡ end - (at + 1) + 1 = omega arith in e) ∙ first_some-here at (end - (at + 1)) x is
+
+  pub first_some-end : (at end : ℕ) → end ≤ at → first_some f at (end - at) ≡ None
+  first_some-end at end h = ap (first_some f at) (let e : end - at ≡ 0 = omega arith in e) ∙ first_some-zero at

@@ -1,6 +1,6 @@
 -- How each instruction is spelled as a word of 32 bits (RISC-V Unprivileged ISA, "RV32/64G Instruction Set
 -- Listings" and "Base Instruction Formats").
-use Rattle.std.specs.Prelude.{◌≡◌, ℕ, ◌+◌, ◌-◌, ◌*◌, ◌/◌, ◌%◌, ◌^◌, ◌<◌, ◌==◌, Bool, true, false, ◌&&◌, if◌then◌else◌, nat_lt, IsTrue, Option, Some, None, option_map, find, List, [], ◌∷◌, ℤ, pos, ◌-ℤ◌, int_lt, ◌⊎◌}
+use Rattle.std.specs.Prelude.{◌≡◌, ℕ, ◌+◌, ◌-◌, ◌*◌, ◌/◌, ◌%◌, ◌^◌, ◌<◌, ◌==◌, Bool, true, false, ◌&&◌, if◌then◌else◌, nat_lt, IsTrue, Option, Some, None, option_map, find, List, [], ◌∷◌, ℤ, pos, ◌-ℤ◌}
 use Rattle.rv_core.specs.declared.instr.Op.{Op}
 use Rattle.rv_core.specs.declared.instr.Op.TheVariants as op
 use Rattle.rv_core.specs.declared.instr.Instr.{Instr}
@@ -79,12 +79,12 @@ form op.Ebreak = Whole 0x00100073
 -- All instructions.
 abbrev pub listed : List Op
 listed =
-  op.Lui ∷ op.Auipc ∷ op.Jal ∷ op.Jalr ∷ op.Beq ∷ op.Bne ∷ op.Blt ∷ op.Bge ∷ op.Bltu ∷ op.Bgeu
-  ∷ op.Lb ∷ op.Lh ∷ op.Lw ∷ op.Ld ∷ op.Lbu ∷ op.Lhu ∷ op.Lwu ∷ op.Sb ∷ op.Sh ∷ op.Sw ∷ op.Sd
-  ∷ op.Addi ∷ op.Slti ∷ op.Sltiu ∷ op.Xori ∷ op.Ori ∷ op.Andi ∷ op.Slli ∷ op.Srli ∷ op.Srai
-  ∷ op.Add ∷ op.Sub ∷ op.Sll ∷ op.Slt ∷ op.Sltu ∷ op.Xor ∷ op.Srl ∷ op.Sra ∷ op.Or ∷ op.And
-  ∷ op.Addiw ∷ op.Slliw ∷ op.Srliw ∷ op.Sraiw ∷ op.Addw ∷ op.Subw ∷ op.Sllw ∷ op.Srlw ∷ op.Sraw
-  ∷ op.Fence ∷ op.FenceI ∷ op.Ecall ∷ op.Ebreak ∷ []
+    op.Lui ∷ op.Auipc ∷ op.Jal ∷ op.Jalr ∷ op.Beq ∷ op.Bne ∷ op.Blt ∷ op.Bge ∷ op.Bltu ∷ op.Bgeu
+    ∷ op.Lb ∷ op.Lh ∷ op.Lw ∷ op.Ld ∷ op.Lbu ∷ op.Lhu ∷ op.Lwu ∷ op.Sb ∷ op.Sh ∷ op.Sw ∷ op.Sd
+    ∷ op.Addi ∷ op.Slti ∷ op.Sltiu ∷ op.Xori ∷ op.Ori ∷ op.Andi ∷ op.Slli ∷ op.Srli ∷ op.Srai
+    ∷ op.Add ∷ op.Sub ∷ op.Sll ∷ op.Slt ∷ op.Sltu ∷ op.Xor ∷ op.Srl ∷ op.Sra ∷ op.Or ∷ op.And
+    ∷ op.Addiw ∷ op.Slliw ∷ op.Srliw ∷ op.Sraiw ∷ op.Addw ∷ op.Subw ∷ op.Sllw ∷ op.Srlw ∷ op.Sraw
+    ∷ op.Fence ∷ op.FenceI ∷ op.Ecall ∷ op.Ebreak ∷ []
 
 -- Bits high to low of a word, as a number.
 abbrev pub bits : ℕ → ℕ → ℕ → ℕ
@@ -144,15 +144,22 @@ has_rs2 (Whole word) = false
 abbrev pub signed_by : ℕ → ℕ → ℤ
 signed_by half n = if nat_lt n half then pos n else pos n -ℤ pos (2 * half)
 
--- The immediate of a word. A branch's and a jump's has a zero bit below, U's has twelve.
+-- The distance of a branch and of a jump, with a zero bit below.
+abbrev pub branch_distance : ℕ → ℤ
+branch_distance w = signed_by (2 ^ 12)
+    (bits w 31 31 * 2 ^ 12 + bits w 7 7 * 2 ^ 11 + bits w 30 25 * 2 ^ 5 + bits w 11 8 * 2)
+
+abbrev pub jump_distance : ℕ → ℤ
+jump_distance w = signed_by (2 ^ 20)
+    (bits w 31 31 * 2 ^ 20 + bits w 19 12 * 2 ^ 12 + bits w 20 20 * 2 ^ 11 + bits w 30 21 * 2)
+
+-- The immediate of a word. U's has twelve zero bits below.
 abbrev pub immediate : ℕ → Form → ℤ
 immediate w (U opcode) = signed_by (2 ^ 31) (bits w 31 12 * 2 ^ 12)
-immediate w (J opcode) = signed_by (2 ^ 20)
-  (bits w 31 31 * 2 ^ 20 + bits w 19 12 * 2 ^ 12 + bits w 20 20 * 2 ^ 11 + bits w 30 21 * 2)
+immediate w (J opcode) = jump_distance w
 immediate w (I opcode f3) = signed_by (2 ^ 11) (bits w 31 20)
 immediate w (S opcode f3) = signed_by (2 ^ 11) (bits w 31 25 * 2 ^ 5 + bits w 11 7)
-immediate w (B opcode f3) = signed_by (2 ^ 12)
-  (bits w 31 31 * 2 ^ 12 + bits w 7 7 * 2 ^ 11 + bits w 30 25 * 2 ^ 5 + bits w 11 8 * 2)
+immediate w (B opcode f3) = branch_distance w
 immediate w (R opcode f3 f7) = pos 0
 immediate w (Shift opcode f3 f6) = pos (bits w 25 20)
 immediate w (ShiftW opcode f3 f7) = pos (bits w 24 20)
@@ -166,7 +173,7 @@ fields_of w o = record {
   rd = (if has_rd (form o) then bits w 11 7 else 0);
   rs1 = (if has_rs1 (form o) then bits w 19 15 else 0);
   rs2 = (if has_rs2 (form o) then bits w 24 20 else 0);
-  imm = immediate w (form o)
+  imm = immediate w (form o);
 }
 
 -- A word spells an instruction that has the word's layout and fields, and nothing if no instruction has its layout.

@@ -95,7 +95,6 @@ row op.FenceI pc i a b = Nothing
 row op.Ecall pc i a b = Traps 8 0
 row op.Ebreak pc i a b = Traps 3 pc
 
-
 -- A load or a store takes 1, 2, 4 or 8 bytes.
 abbrev pub HasSize : Effect → Type 0
 HasSize (Loads at size sign) = IsSize size

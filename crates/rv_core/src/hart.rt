@@ -7,6 +7,7 @@ ghost use Rattle.rv_core.specs.Machine.{register, with_register, at, next, sets,
 
 use crate::cells::Cells;
 use crate::context::{Context, Ended, Trap};
+use crate::decoder::decode;
 use crate::instr::Instr;
 use crate::rows::{Effect, effect_of, extend};
 
@@ -59,7 +60,14 @@ fn jump(cx: &mut Context, rd: u8, to: u64) -> Option<Trap>
 
 /// Loads the `size` bytes at `from` into register `rd`, as a signed number if `sign` is set.
 #[inline]
-fn load<C: Cells>(cx: &mut Context, cells: &C, rd: u8, from: u64, size: u8, sign: bool) -> Option<Trap>
+fn load<C: Cells>(
+    cx: &mut Context,
+    cells: &C,
+    rd: u8,
+    from: u64,
+    size: u8,
+    sign: bool,
+) -> Option<Trap>
     requires rd { rd < 32 }
     requires size { IsSize size }
     ensures { Gives (outcome cx.old (C.memory cells.now) rd (Effect.Loads from size sign))
@@ -130,4 +138,47 @@ fn execute<C: Cells>(cx: &mut Context, cells: &mut C, instr: &Instr) -> Option<T
     let b = read(cx, instr.rs2);
     let effect = effect_of(instr.op, cx.pc, instr.imm.cast_unsigned(), a, b);
     apply(cx, cells, instr.rd, effect)
+}
+
+/// Does the instruction at the program counter. A trap leaves registers, program counter and memory as they
+/// were: cause 0 for an address of an instruction that isn't a multiple of 4, 1 for a word that can't be
+/// fetched, 2 for an illegal word, 3 for EBREAK, 5 and 7 for a refused load and store, 8 for ECALL.
+#[inline]
+pub fn step<C: Cells>(cx: &mut Context, cells: &mut C) -> Option<Trap>
+    ensures { Gives (instruction cx.old (C.memory cells.old))
+        cx.old (C.memory cells.old) result cx.new (C.memory cells.new) }
+{
+    if cx.pc % 4 != 0 {
+        return Some(Trap {
+            cause: 0,
+            value: cx.pc,
+        });
+    }
+    let Some(word) = cells.fetch(cx.pc) else {
+        return Some(Trap {
+            cause: 1,
+            value: cx.pc,
+        });
+    };
+    match decode(word) {
+        Some(instr) => execute(cx, cells, &instr),
+        None => Some(Trap {
+            cause: 2,
+            value: u64::from(word),
+        }),
+    }
+}
+
+/// Does steps until one traps or `n` are done.
+#[inline]
+#[tactic(auto, unfolding(crate::specs::Machine::instructions))]
+pub fn slice<C: Cells>(cx: &mut Context, cells: &mut C, n: u32) -> Ended
+    ensures { Ends (instructions n cx.old (C.memory cells.old)) result cx.new (C.memory cells.new) }
+{
+    for _done in 0..n {
+        if let Some(trap) = step(cx, cells) {
+            return Ended::Trapped(trap);
+        }
+    }
+    Ended::Ran
 }

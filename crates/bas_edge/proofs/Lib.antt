@@ -1,0 +1,2 @@
+pub mod FilesIn
+pub mod Texts

@@ -1,0 +1,29 @@
+use Rattle.std.proofs.Common.{◌≡◌, ap, ◌∙◌, refl, arith}
+use Rattle.std.specs.Prelude.{Some}
+use Rattle.std.specs.FinMap.{insert}
+use Rattle.std.proofs.lemmas.Grind.{common_steps}
+use Rattle.std.proofs.lemmas.Result.{err_from_is_err_and}
+use Rattle.bas_edge.specs.Files.{resized}
+use Rattle.bas_edge.proofs.FilesIn.{bytes_found, files_in-written, files_in-rewritten, missed_there}
+use Rattle.bas_edge.proofs.calm_store.CalmStoreStore.set_length.Goals as goal
+
+pub returns-in_err-resize-in-Some-clause-same :
+    goal.returns-in_err-resize-in-Some-clause-same
+returns-in_err-resize-in-Some-clause-same c =
+    let p = err_from_is_err_and c.from_residual.result c.from_residual.ensures.1 in
+    rw p.1 (ap Some
+    (files_in-rewritten c.self.inside.files (c.get_mut.follows.lender c.resize.new.self) c.args.self.now c.args.name.now c.in-Some.text.now c.resize.new.self
+    c.self.view_is (c.requires c.args.self.now refl) (rw c.in-Some.is at c.get_mut.ensures.value) (c.get_mut.follows.holds c.resize.new.self) c.in_err-resize-in-Some.ensures.items))
+
+pub unreachable-requires : goal.unreachable-requires
+unreachable-requires c =
+    missed_there c.self.inside.files c.args.self.now c.args.name.now c.self.view_is (c.requires c.args.self.now refl) (rw c.in-None.is at c.get_mut.ensures.value)
+
+pub returns-clause-resized : goal.returns-clause-resized
+returns-clause-resized c =
+    let held = bytes_found c.self.inside.files c.args.self.now c.args.name.now c.in-Some.text.now c.self.view_is (rw c.in-Some.is at c.get_mut.ensures.value) in
+    let filled : c.resize.new.self.items ≡ resized c.in-Some.text.now.items c.args.length = grind (arith, common_steps) in
+    ap Some
+    (files_in-written c.self.inside.files (c.get_mut.follows.lender c.resize.new.self) c.args.self.now c.args.name.now c.resize.new.self
+    c.self.view_is (c.requires c.args.self.now refl) (c.get_mut.follows.holds c.resize.new.self)
+    ∙ ap (insert c.args.self.now c.args.name.now) (filled ∙ ap (λ old. resized old c.args.length) held))

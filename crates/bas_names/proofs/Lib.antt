@@ -1,0 +1,3 @@
+pub mod Escapes
+mod Examples
+pub mod RuleLists

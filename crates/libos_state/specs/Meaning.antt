@@ -1,0 +1,123 @@
+-- What the library OS and a world stand for: the monolithic machine at the end of the current turn, or what the start
+-- that is going on leads to.
+use Rattle.std.specs.Prelude.{ℕ, ◌+◌, ◌-◌, ◌*◌, List, [], ◌++◌, length, take, drop}
+use Rattle.std.specs.declared.option.Option.{Option}
+use Rattle.std.specs.declared.option.Option.TheVariants.{None, Some}
+use Rattle.rv_core.specs.declared.context.Context.{Context}
+use Rattle.guest_space.specs.Space.{Space}
+use Rattle.bas_edge.specs.Files.{file_bytes}
+use Rattle.abi_calls.specs.declared.call.StreamName.{StreamName}
+use Rattle.abi_calls.specs.declared.call.StreamName.TheVariants as stream
+use Rattle.abi_calls.specs.Objects.{object_at}
+use Rattle.abi_calls.specs.Streams.{stream_of}
+use Rattle.abi_calls.specs.World.{World}
+use Rattle.mono_model.specs.Machine.{Mono, resumed, made_ready}
+use Rattle.mono_model.specs.Calls.{Caller, served, write_bytes}
+use Rattle.mono_model.specs.Program.{plain_program}
+use Rattle.mono_model.specs.Starting.{Job, Started, Runs, NoProgram, BadProgram, blank, started, started_with, begun, start_context, loaded_run, filled_from, with_rights_of, stacked, with_block}
+use Rattle.libos_state.specs.declared.cont.Cont.{Cont}
+use Rattle.libos_state.specs.declared.cont.Stage.{Stage}
+use Rattle.libos_state.specs.declared.cont.Stage.TheVariants.{SetContext, Resume, CloseHandles, ExitProcess, ReadMemory, WriteStream, Configure, OpenConsole, OpenProgram, ProgramLength, ReadProgram, CloseProgram, CreateProcess, AllocateRun, WriteRun, ProtectRun, AllocateStack, WriteBlock, CreateThread, CreateEvent, StartThread}
+use Rattle.libos_state.specs.declared.notes.Description.{Description}
+use Rattle.libos_state.specs.declared.notes.ProcessNote.{ProcessNote}
+use Rattle.libos_state.specs.declared.notes.ThreadNote.{ThreadNote}
+use Rattle.libos_state.specs.declared.state.Boot.{Boot}
+use Rattle.libos_state.specs.declared.state.Boot.TheVariants as boot
+use Rattle.libos_state.specs.declared.state.LibOs.{LibOs}
+use Rattle.libos_state.specs.Records.{base, process_with, thread_with, stream_of_kind, description_behind, memory_of_object, context_of}
+use Rattle.libos_state.specs.Pending.{upcall_in, handle, number, program_name, arguments, argument, file_or_child, no_positions, run_in}
+
+abbrev pub tid_of : Option ThreadNote → ℕ
+tid_of None = 0
+tid_of (Some n) = n.tid
+
+abbrev pub pid_of : Option ProcessNote → ℕ
+pid_of None = 0
+pid_of (Some n) = n.pid
+
+-- The thread and the process that a service serves, by their ids.
+abbrev pub caller_in : LibOs → Cont → Caller
+caller_in os c = record {
+  thread = tid_of (thread_with (upcall_in c.event).thread os.threads);
+  process = pid_of (process_with (upcall_in c.event).process os.processes);
+  context = (upcall_in c.event).context;
+}
+
+abbrev pub stream_described : Option Description → StreamName
+stream_described None = stream.ConIn
+stream_described (Some d) = stream_of_kind d.kind
+
+-- The stream of the descriptor in a0.
+abbrev pub stream_in : LibOs → Cont → StreamName
+stream_in os c = stream_described (description_behind os (upcall_in c.event).process (argument c 0))
+
+-- The machine before the start, with what the host has of it.
+abbrev pub unstarted : World → Mono
+unstarted w = blank w.objects.settings w.objects.positions w.contents
+
+abbrev pub job_in : Cont → Job
+job_in c = record { name = program_name c; args = arguments c }
+
+abbrev pub name_in : Option StreamName → List ℕ
+name_in (Some (stream.File name)) = name
+name_in (Some stream.ConIn) = []
+name_in (Some stream.ConOut) = []
+name_in (Some stream.ConErr) = []
+name_in None = []
+
+-- The bytes of the open file of the program.
+abbrev pub program_file : World → Cont → List ℕ
+program_file w c = file_bytes w.contents.files (name_in (stream_of (object_at w.objects (file_or_child c))))
+
+-- The memory of the process that is made.
+abbrev pub child_memory : World → Cont → Space
+child_memory w c = memory_of_object (object_at w.objects (file_or_child c))
+
+-- The registers of the thread that is made.
+abbrev pub child_context : World → Cont → Context
+child_context w c = context_of (object_at w.objects (handle c 4))
+
+-- The run begins with this memory, and with these registers.
+abbrev pub begins : World → Space → Context → Started
+begins w memory context = Runs (begun (unstarted w) memory context)
+
+abbrev pub begins_with : World → Cont → Space → Started
+begins_with w c memory = begins w memory (start_context (plain_program c.bytes) (arguments c))
+
+abbrev pub meant_at : LibOs → World → Cont → Stage → Started
+meant_at os w c SetContext = Runs (resumed (base os w) (caller_in os c).thread (caller_in os c).process c.next)
+meant_at os w c Resume = Runs (made_ready (base os w) (caller_in os c).thread)
+meant_at os w c CloseHandles = Runs (base os w)
+meant_at os w c ExitProcess = Runs (base os w)
+meant_at os w c ReadMemory = Runs (served (base os w) (caller_in os c) (upcall_in c.event).cause)
+meant_at os w c WriteStream = Runs (write_bytes (base os w) (caller_in os c) (stream_in os c) c.bytes)
+meant_at os w c Configure = started (blank os.settings no_positions w.contents) (job_in c)
+meant_at os w c OpenConsole = started (unstarted w) (job_in c)
+meant_at os w c OpenProgram = started (unstarted w) (job_in c)
+meant_at os w c ProgramLength = started_with (unstarted w) (arguments c) (program_file w c)
+meant_at os w c ReadProgram =
+    started_with (unstarted w) (arguments c) (c.bytes ++ take (number c 0 - length c.bytes) (drop (length c.bytes) (program_file w c)))
+meant_at os w c CloseProgram = started_with (unstarted w) (arguments c) c.bytes
+meant_at os w c CreateProcess = started_with (unstarted w) (arguments c) c.bytes
+meant_at os w c AllocateRun = begins_with w c (stacked (loaded_run (child_memory w c) (run_in c)) (arguments c))
+meant_at os w c WriteRun =
+    begins_with w c (stacked (with_rights_of (filled_from (child_memory w c) ((run_in c).page * 4096 + number c 1) (drop (number c 1) (run_in c).bytes)) (run_in c)) (arguments c))
+meant_at os w c ProtectRun = begins_with w c (stacked (with_rights_of (child_memory w c) (run_in c)) (arguments c))
+meant_at os w c AllocateStack = begins_with w c (stacked (child_memory w c) (arguments c))
+meant_at os w c WriteBlock = begins_with w c (with_block (child_memory w c) (arguments c))
+meant_at os w c CreateThread = begins_with w c (child_memory w c)
+meant_at os w c CreateEvent = begins w (child_memory w c) (child_context w c)
+meant_at os w c StartThread = begins w (child_memory w c) (child_context w c)
+
+abbrev pub meant_idle : LibOs → World → Boot → Started
+meant_idle os w boot.Up = Runs (base os w)
+meant_idle os w boot.NoProgram = NoProgram
+meant_idle os w (boot.BadProgram cause) = BadProgram
+meant_idle os w boot.Going = NoProgram
+
+abbrev pub meant : LibOs → World → Option Cont → Started
+meant os w None = meant_idle os w os.boot
+meant os w (Some c) = meant_at os w c c.stage
+
+abbrev pub meaning : LibOs → World → Started
+meaning os w = meant os w os.cont

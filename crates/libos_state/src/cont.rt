@@ -1,0 +1,80 @@
+use abi_calls::Upcall;
+use bas_items::Items;
+use rv_core::Context;
+
+/// What a service serves.
+#[derive(Debug, Drop)]
+pub enum Event {
+    /// The start of a run: the name of the program and its further arguments.
+    Boot {
+        program: Items<u8>,
+        args: Items<Items<u8>>,
+    },
+    /// The trap of a thread.
+    Up(Upcall),
+}
+
+/// Which call a service makes next.
+#[derive(Clone, Copy, Debug, PartialEq, Eq)]
+pub enum Stage {
+    /// The thread gets its registers.
+    SetContext,
+    /// The thread becomes ready.
+    Resume,
+    /// A handle of the process that ends is closed.
+    CloseHandles,
+    /// The process ends.
+    ExitProcess,
+    /// The bytes to be written are read from the caller's memory.
+    ReadMemory,
+    /// The bytes are written to the stream.
+    WriteStream,
+    /// The host gets the settings.
+    Configure,
+    /// The console's input, output and errors are opened.
+    OpenConsole,
+    /// The program's file is opened.
+    OpenProgram,
+    /// The program's length is asked for.
+    ProgramLength,
+    /// The program is read.
+    ReadProgram,
+    /// The program's file is closed.
+    CloseProgram,
+    /// The process is made.
+    CreateProcess,
+    /// The pages of a run of the program are made.
+    AllocateRun,
+    /// The bytes of the run are written.
+    WriteRun,
+    /// The run gets its rights.
+    ProtectRun,
+    /// The pages of the stack are made.
+    AllocateStack,
+    /// The argument block is written.
+    WriteBlock,
+    /// The thread is made.
+    CreateThread,
+    /// The thread's event is made.
+    CreateEvent,
+    /// The new thread becomes ready.
+    StartThread,
+}
+
+/// What a service keeps between two calls. A list that the stage doesn't need is empty, and `next` is then the
+/// event's context.
+#[derive(Debug, Drop)]
+pub struct Cont {
+    pub event: Event,
+    pub stage: Stage,
+    /// The registers that the thread gets.
+    pub next: Context,
+    /// The name of the program, and its arguments.
+    pub names: Items<Items<u8>>,
+    /// Bytes that were read.
+    pub bytes: Items<u8>,
+    /// Handles of objects that the service made or is to close.
+    pub handles: Items<u64>,
+    /// An exit code, an offset, a length, or how far a run is written.
+    pub numbers: Items<u64>,
+}

@@ -1,0 +1,11 @@
+//! What the library OS keeps: its records of processes, threads and open descriptions, and what a service in progress
+//! keeps between two calls of the host's interface.
+#![tactic(auto)]
+
+mod cont;
+mod notes;
+mod state;
+
+pub use cont::{Cont, Event, Stage};
+pub use notes::{Description, DescriptorNote, ElfError, Kind, ProcessNote, ThreadNote};
+pub use state::{Boot, LibOs};

@@ -1,0 +1,59 @@
+use bas_items::Items;
+use thiserror::Error;
+
+/// Why a program file is refused.
+#[derive(Clone, Copy, Debug, PartialEq, Eq, Error)]
+pub enum ElfError {
+    /// The file isn't of the one form that is taken so far.
+    #[error("not a program of the form that is taken so far")]
+    Later,
+}
+
+/// What an open description is open on.
+#[derive(Clone, Copy, Debug, PartialEq, Eq)]
+pub enum Kind {
+    /// The console's input.
+    ConIn,
+    /// The console's output.
+    ConOut,
+    /// The console's errors.
+    ConErr,
+}
+
+/// An open description.
+#[derive(Clone, Copy, Debug, PartialEq, Eq)]
+pub struct Description {
+    pub id: u64,
+    /// The handle of its stream.
+    pub handle: u64,
+    pub kind: Kind,
+    /// 1 to read, 2 to write, added up.
+    pub access: u8,
+}
+
+/// A descriptor of a process, and the open description that it names.
+#[derive(Clone, Copy, Debug, PartialEq, Eq)]
+pub struct DescriptorNote {
+    pub number: u64,
+    pub description: u64,
+}
+
+/// A process that the library OS knows.
+#[derive(Debug, Drop)]
+pub struct ProcessNote {
+    pub pid: u64,
+    pub handle: u64,
+    /// The exit code, once it has exited.
+    pub code: Option<u8>,
+    pub descriptors: Items<DescriptorNote>,
+}
+
+/// A thread that the library OS knows.
+#[derive(Clone, Copy, Debug, PartialEq, Eq)]
+pub struct ThreadNote {
+    pub tid: u64,
+    pub pid: u64,
+    pub handle: u64,
+    /// The handle of the event that wakes it.
+    pub event: u64,
+}

@@ -1,0 +1,31 @@
+use crate::cont::Cont;
+use crate::notes::{Description, ElfError, ProcessNote, ThreadNote};
+use abi_calls::Settings;
+use bas_items::Items;
+
+/// How far the start of the run is.
+#[derive(Clone, Copy, Debug, PartialEq, Eq)]
+pub enum Boot {
+    /// It is going on.
+    Going,
+    /// The run has begun.
+    Up,
+    /// The program's file can't be opened.
+    NoProgram,
+    /// The file is no program.
+    BadProgram(ElfError),
+}
+
+/// The library OS: the system calls, over the host's interface.
+#[derive(Debug, Drop)]
+pub struct LibOs {
+    pub settings: Settings,
+    pub boot: Boot,
+    /// The next id of a process or a thread.
+    pub next_id: u64,
+    pub processes: Items<ProcessNote>,
+    pub threads: Items<ThreadNote>,
+    pub descriptions: Items<Description>,
+    /// The service in progress.
+    pub cont: Option<Cont>,
+}

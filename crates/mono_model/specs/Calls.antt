@@ -1,0 +1,132 @@
+-- What a trapped thread's system call or fault does, in one step on whole texts. The numbers of the calls and of the
+-- errors are Linux's generic ones. The number stands in a7, arguments in a0 to a5, the result in a0.
+use Rattle.std.specs.Prelude.{ℕ, ◌-◌, ◌%◌, ◌^◌, ◌==◌, if◌then◌else◌, List, [], ◌++◌, length, min, bit_and}
+use Rattle.std.specs.Ordering.{nat_cmp}
+use Rattle.std.specs.FinMap.{get, insert, empty}
+use Rattle.std.specs.declared.option.Option.{Option}
+use Rattle.std.specs.declared.option.Option.TheVariants.{None, Some}
+use Rattle.rv_core.specs.declared.context.Context.{Context}
+use Rattle.guest_space.specs.Space.{Space, memory_of, bytes_from}
+use Rattle.guest_space.specs.Access.{AccessFault, first_fault}
+use Rattle.abi_calls.specs.declared.call.StreamName.{StreamName}
+use Rattle.abi_calls.specs.declared.call.StreamName.TheVariants.{File, ConIn, ConOut, ConErr}
+use Rattle.mono_model.specs.Machine.{Mono, Process, Description, exited, returned, register, resumed, process_at}
+
+-- The system calls that there are so far.
+abbrev pub WRITE : ℕ
+WRITE = 64
+
+abbrev pub EXIT : ℕ
+EXIT = 93
+
+-- Errors.
+abbrev pub EBADF : ℕ
+EBADF = 9
+
+abbrev pub EFAULT : ℕ
+EFAULT = 14
+
+abbrev pub ENOSYS : ℕ
+ENOSYS = 38
+
+-- An error as a result: its negative number, modulo 2^64.
+abbrev pub error : ℕ → ℕ
+error number = 2 ^ 64 - number
+
+-- Where a system call was made: the thread, its process, and the registers at the call.
+pub record Caller : Type 0 where
+  pub thread : ℕ
+  pub process : ℕ
+  pub context : Context
+
+-- The thread gets the result and goes on behind the call.
+abbrev pub finished : Mono → Caller → ℕ → Mono
+finished m who result = resumed m who.thread who.process (returned who.context result)
+
+abbrev pub described_by : Mono → Option ℕ → Option Description
+described_by m None = None
+described_by m (Some d) = get {R = nat_cmp} m.descriptions d
+
+abbrev pub described_in : Mono → ℕ → Option Process → Option Description
+described_in m fd None = None
+described_in m fd (Some process) = described_by m (get {R = nat_cmp} process.descriptors fd)
+
+-- The open description that a descriptor of a process names.
+abbrev pub description_of : Mono → ℕ → ℕ → Option Description
+description_of m p fd = described_in m fd (process_at m p)
+
+-- The stream of a description that can be written.
+abbrev pub writable : Option Description → Option StreamName
+writable None = None
+writable (Some d) = if bit_and d.access 2 == 2 then Some d.stream else None
+
+abbrev pub memory_in : Option Process → Space
+memory_in None = empty
+memory_in (Some process) = process.memory
+
+-- The memory of a process.
+abbrev pub memory_at : Mono → ℕ → Space
+memory_at m p = memory_in (process_at m p)
+
+-- How many bytes one call moves at most.
+abbrev pub moved : ℕ → ℕ
+moved count = min count 65536
+
+-- Bytes that were read go to the stream, at its end.
+abbrev pub sent : Mono → StreamName → List ℕ → Mono
+sent m ConOut bytes = record m { output = m.output ++ bytes }
+sent m ConErr bytes = record m { errors = m.errors ++ bytes }
+sent m ConIn bytes = m
+sent m (File name) bytes = m
+
+abbrev pub write_bytes : Mono → Caller → StreamName → List ℕ → Mono
+write_bytes m who stream bytes = finished (sent m stream bytes) who (length bytes)
+
+abbrev pub write_unless : Mono → Caller → StreamName → List ℕ → Option AccessFault → Mono
+write_unless m who stream bytes None = write_bytes m who stream bytes
+write_unless m who stream bytes (Some fault) = finished m who (error EFAULT)
+
+-- The bytes are read from the caller's memory: EFAULT where one isn't there or can't be read.
+abbrev pub write_from : Mono → Caller → StreamName → ℕ → ℕ → Mono
+write_from m who stream address count =
+    let memory = memory_of (memory_at m who.process) in
+    write_unless m who stream (bytes_from memory address count) (first_fault memory 1 address count)
+
+abbrev pub write_to : Mono → Caller → Option StreamName → Mono
+write_to m who None = finished m who (error EBADF)
+write_to m who (Some stream) =
+    if register who.context 12 == 0 then finished m who 0
+    else write_from m who stream (register who.context 11) (moved (register who.context 12))
+
+-- write(fd, buf, n): EBADF where fd isn't open for writing. n is cut to 65,536, and 0 writes nothing.
+abbrev pub write : Mono → Caller → Mono
+write m who = write_to m who (writable (description_of m who.process (register who.context 10)))
+
+-- A process ends, which is the only one there is so far: its threads and its descriptions end with it.
+abbrev pub ended : Mono → ℕ → ℕ → Mono
+ended m p code = record m { processes = insert m.processes p (exited code); threads = empty; descriptions = empty; ready = [] }
+
+-- exit(c) ends the thread, and with the last one the process, with c modulo 256.
+abbrev pub exit : Mono → Caller → Mono
+exit m who = ended m who.process (register who.context 10 % 256)
+
+abbrev pub system_call : Mono → Caller → ℕ → Mono
+system_call m who number =
+    if number == WRITE then write m who
+    else (if number == EXIT then exit m who
+    else finished m who (error ENOSYS))
+
+-- The exit code of a process that a fault ends, by the cause: 132 an illegal instruction, 133 a breakpoint, 135 a
+-- misaligned instruction address, 139 an access.
+abbrev pub fault_code : ℕ → ℕ
+fault_code cause =
+    if cause == 2 then 132
+    else (if cause == 3 then 133
+    else (if cause == 0 then 135
+    else 139))
+
+-- What a trap does: cause 8 is a system call, every other a fault.
+abbrev pub served : Mono → Caller → ℕ → Mono
+served m who cause =
+    if cause == 8 then system_call m who (register who.context 17)
+    else ended m who.process (fault_code cause)

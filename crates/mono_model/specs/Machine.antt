@@ -1,0 +1,81 @@
+-- The monolithic machine: processes, threads and open descriptions by their ids, and the contents of the outside.
+use Rattle.std.specs.Prelude.{ℕ, ◌+◌, ◌-◌, ◌%◌, ◌^◌, List, [], ◌∷◌, ◌++◌, slice_index, slice_set}
+use Rattle.std.specs.Ordering.{nat_cmp}
+use Rattle.std.specs.FinMap.{FinMap, get, insert, empty}
+use Rattle.std.specs.declared.option.Option.{Option}
+use Rattle.std.specs.declared.option.Option.TheVariants.{None, Some}
+use Rattle.rv_core.specs.declared.context.Context.{Context}
+use Rattle.guest_space.specs.Space.{Space}
+use Rattle.bas_edge.specs.Files.{Files}
+use Rattle.abi_calls.specs.declared.call.StreamName.{StreamName}
+use Rattle.abi_calls.specs.declared.settings.Positions.{Positions}
+use Rattle.abi_calls.specs.declared.settings.Settings.{Settings}
+
+-- An open description: what it is open on, and its access (1 to read, 2 to write, added up).
+pub record Description : Type 0 where
+  pub stream : StreamName
+  pub access : ℕ
+
+-- A process: its memory, its exit code once it has exited, and its descriptors, each naming a description.
+pub record Process : Type 0 where
+  pub memory : Space
+  pub code : Option ℕ
+  pub descriptors : FinMap nat_cmp ℕ
+
+-- A thread of a process, with its registers.
+pub record Thread : Type 0 where
+  pub process : ℕ
+  pub context : Context
+
+pub record Mono : Type 0 where
+  pub processes : FinMap nat_cmp Process
+  pub threads : FinMap nat_cmp Thread
+  pub descriptions : FinMap nat_cmp Description
+  pub ready : List ℕ
+  pub files : Files
+  pub input : List ℕ
+  pub output : List ℕ
+  pub errors : List ℕ
+  pub next_id : ℕ
+  pub positions : Positions
+  pub settings : Settings
+
+abbrev pub process_at : Mono → ℕ → Option Process
+process_at m p = get {R = nat_cmp} m.processes p
+
+abbrev pub thread_at : Mono → ℕ → Option Thread
+thread_at m t = get {R = nat_cmp} m.threads t
+
+abbrev pub with_process : Mono → ℕ → Process → Mono
+with_process m p process = record m { processes = insert m.processes p process }
+
+abbrev pub with_thread : Mono → ℕ → Thread → Mono
+with_thread m t thread = record m { threads = insert m.threads t thread }
+
+-- The exit code of a process that has exited.
+abbrev pub code_in : Option Process → Option ℕ
+code_in None = None
+code_in (Some process) = process.code
+
+abbrev pub exit_code : Mono → ℕ → Option ℕ
+exit_code m p = code_in (process_at m p)
+
+-- A process that has exited has its code alone.
+abbrev pub exited : ℕ → Process
+exited code = record { memory = empty; code = Some code; descriptors = empty }
+
+-- Register n, of 1 to 31.
+abbrev pub register : Context → ℕ → ℕ
+register cx n = slice_index cx.x (n - 1)
+
+-- The registers behind a system call: its result in a0, and the next instruction.
+abbrev pub returned : Context → ℕ → Context
+returned cx result = record { pc = (cx.pc + 4) % 2 ^ 64; x = slice_set cx.x 9 result }
+
+-- A thread joins the end of the ready list.
+abbrev pub made_ready : Mono → ℕ → Mono
+made_ready m t = record m { ready = m.ready ++ t ∷ [] }
+
+-- A thread gets these registers and joins the end of the ready list.
+abbrev pub resumed : Mono → ℕ → ℕ → Context → Mono
+resumed m t p cx = made_ready (with_thread m t (record { process = p; context = cx })) t

@@ -1,0 +1,148 @@
+-- How a run starts: the program is opened, read and loaded, and one process with one thread begins.
+use Rattle.std.specs.Prelude.{ℕ, ◌+◌, ◌-◌, ◌*◌, ◌/◌, ◌^◌, List, [], ◌∷◌, ◌++◌, length, sum_by, replicate}
+use Rattle.std.specs.List.{flat_map}
+use Rattle.std.specs.Int.{to_le_bytes, w64}
+use Rattle.std.specs.Ordering.{nat_cmp}
+use Rattle.std.specs.FinMap.{FinMap, insert, empty}
+use Rattle.std.specs.declared.option.Option.{Option}
+use Rattle.std.specs.declared.option.Option.TheVariants.{None, Some}
+use Rattle.rv_core.specs.declared.context.Context.{Context}
+use Rattle.guest_space.specs.Space.{Space, memory_of, with_run, protected, with_memory}
+use Rattle.guest_space.specs.Access.{with_bytes}
+use Rattle.bas_edge.specs.Files.{file_of}
+use Rattle.abi_calls.specs.declared.call.StreamName.TheVariants.{ConIn, ConOut, ConErr}
+use Rattle.abi_calls.specs.declared.settings.Positions.{Positions}
+use Rattle.abi_calls.specs.declared.settings.Settings.{Settings}
+use Rattle.abi_calls.specs.World.{Contents}
+use Rattle.mono_model.specs.Machine.{Mono, Description}
+use Rattle.mono_model.specs.Program.{Program, Run, program_of}
+
+-- The name of the program that is opened, and the program's arguments, of which the first is its own name.
+pub record Job : Type 0 where
+  pub name : List ℕ
+  pub args : List (List ℕ)
+
+-- What a start leads to.
+pub data Started : Type 0 where
+  Runs : Mono → Started
+  NoProgram : Started
+  BadProgram : Started
+
+-- The machine before the start.
+abbrev pub blank : Settings → Positions → Contents → Mono
+blank settings positions c = record {
+  processes = empty;
+  threads = empty;
+  descriptions = empty;
+  ready = [];
+  files = c.files;
+  input = c.input;
+  output = c.output;
+  errors = c.errors;
+  next_id = 1;
+  positions = positions;
+  settings = settings;
+}
+
+-- The stack: 16 pages that end at address 2^38 and can be read and written.
+abbrev pub STACK_PAGE : ℕ
+STACK_PAGE = 2 ^ 26 - 16
+
+abbrev pub STACK_PAGES : ℕ
+STACK_PAGES = 16
+
+abbrev pub STACK_END : ℕ
+STACK_END = 2 ^ 38
+
+-- The argument block: the count, a pointer to each argument, two zero words, all of 8 bytes, and the arguments, each
+-- with a zero byte.
+abbrev pub block_size : List (List ℕ) → ℕ
+block_size args = 8 * (length args + 3) + sum_by (λ arg. length arg + 1) args
+
+-- Where the block stands: at the greatest multiple of 16 from which it fits below the stack's end.
+abbrev pub stack_pointer : List (List ℕ) → ℕ
+stack_pointer args = (STACK_END - block_size args) / 16 * 16
+
+abbrev pub pointers : ℕ → List (List ℕ) → List ℕ
+pointers at [] = []
+pointers at (arg ∷ args) = to_le_bytes w64 at ++ pointers (at + length arg + 1) args
+
+abbrev pub block_at : ℕ → List (List ℕ) → List ℕ
+block_at sp args =
+    to_le_bytes w64 (length args) ++ (pointers (sp + 8 * (length args + 3)) args ++ (replicate 16 0 ++ flat_map (λ arg. arg ++ 0 ∷ []) args))
+
+abbrev pub argument_block : List (List ℕ) → List ℕ
+argument_block args = block_at (stack_pointer args) args
+
+abbrev pub pages_in : Run → ℕ
+pages_in run = length run.bytes / 4096
+
+-- The bytes of a run written from the n-th on, and then its rights.
+abbrev pub filled_from : Space → ℕ → List ℕ → Space
+filled_from s at bytes = with_memory s (with_bytes (memory_of s) at bytes)
+
+abbrev pub with_rights_of : Space → Run → Space
+with_rights_of s run = protected s run.page (pages_in run) run.rights
+
+abbrev pub with_pages_of : Space → Run → Space
+with_pages_of s run = with_run s run.page (pages_in run) 3
+
+abbrev pub loaded_run : Space → Run → Space
+loaded_run s run = with_rights_of (filled_from (with_pages_of s run) (run.page * 4096) run.bytes) run
+
+-- Each run's pages are made, filled and given their rights.
+abbrev pub loaded : Space → List Run → Space
+loaded s [] = s
+loaded s (run ∷ runs) = loaded (loaded_run s run) runs
+
+abbrev pub with_stack : Space → Space
+with_stack s = with_run s STACK_PAGE STACK_PAGES 3
+
+abbrev pub with_block : Space → List (List ℕ) → Space
+with_block s args = filled_from s (stack_pointer args) (argument_block args)
+
+-- The stack with the argument block.
+abbrev pub stacked : Space → List (List ℕ) → Space
+stacked s args = with_block (with_stack s) args
+
+-- The registers of a thread that begins: the program's entry, the stack pointer, and 0.
+abbrev pub start_context : Program → List (List ℕ) → Context
+start_context program args = record { pc = program.entry; x = 0 ∷ stack_pointer args ∷ replicate 29 0 }
+
+-- The descriptors of process 1 name its descriptions: console input, output and errors.
+abbrev pub console_descriptors : FinMap nat_cmp ℕ
+console_descriptors = insert (insert (insert empty 2 3) 1 2) 0 1
+
+abbrev pub console_descriptions : FinMap nat_cmp Description
+console_descriptions =
+    insert (insert (insert empty 3 (record { stream = ConErr; access = 2 })) 2 (record { stream = ConOut; access = 2 })) 1 (record { stream = ConIn; access = 1 })
+
+-- The first process and its thread, both with the id 1, over this memory.
+abbrev pub begun : Mono → Space → Context → Mono
+begun m memory context = record m {
+  processes = insert empty 1 (record { memory = memory; code = None; descriptors = console_descriptors });
+  threads = insert empty 1 (record { process = 1; context = context });
+  descriptions = console_descriptions;
+  ready = 1 ∷ [];
+  next_id = 2;
+}
+
+abbrev pub begun_from : Mono → List (List ℕ) → Option Program → Started
+begun_from m args None = BadProgram
+begun_from m args (Some program) = Runs (begun m (stacked (loaded empty program.runs) args) (start_context program args))
+
+-- The file's bytes are the program.
+abbrev pub started_with : Mono → List (List ℕ) → List ℕ → Started
+started_with m args file = begun_from m args (program_of file)
+
+abbrev pub started_if : Mono → List (List ℕ) → Option (List ℕ) → Started
+started_if m args None = NoProgram
+started_if m args (Some file) = started_with m args file
+
+-- The program's file is opened.
+abbrev pub started : Mono → Job → Started
+started m job = started_if m job.args (file_of m.files job.name)
+
+-- A run's start: at turn 0, over these contents.
+abbrev pub boot : Settings → Contents → Job → Started
+boot settings contents job = started (blank settings (record { turns = 0; pick = 0; random = 0 }) contents) job
