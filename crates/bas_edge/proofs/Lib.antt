@@ -1,2 +1,3 @@
+mod Examples
 pub mod FilesIn
 pub mod Texts

@@ -46,14 +46,3 @@ overwritten-parts old bytes text front part back rest at size is f r p b e some 
     b ∙ ap (drop (length bytes)) r ∙ drop-drop (length bytes) at text ∙ ap (λ n. drop n text) e ∙ ap (drop size) filled ∙ drop-filled old size ∙ ap (λ n. drop n old) (sym e) in
     let nonempty : nat_eq (length bytes) 0 ≡ false = grind (arith, nat_tests) in
     rw nonempty (rw (before, p, behind) (simp append_assoc))
-
--- bytes behind the last one
-pub overwritten-length : (old bytes : List ℕ) → overwritten old (length old) bytes ≡ old ++ bytes
-overwritten-length old [] = sym (append-nil old)
-overwritten-length old (x ∷ bytes) =
-    let all : length old ≤ length old + suc (length bytes) = omega arith in
-    let none : length old - length old ≡ 0 = omega arith in
-    let past : drop (length old + suc (length bytes)) old ≡ [] = drop_all (length old + suc (length bytes)) old all in
-    let whole : take (length old) old ≡ old = take_all (length old) old (omega arith) in
-    let nonempty : nat_eq (suc (length bytes)) 0 ≡ false = grind (arith, nat_tests) in
-    rw nonempty (rw (past, none, whole) (simp append-nil))

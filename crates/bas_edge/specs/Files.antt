@@ -3,12 +3,17 @@ use Rattle.std.specs.Prelude.{ℕ, ◌+◌, ◌-◌, ◌≤◌, ◌==◌, if◌t
 use Rattle.std.specs.Prelude.{map, Vec, String, string_bytes}
 use Rattle.std.specs.Ordering.{nat_cmp}
 use Rattle.std.specs.BTreeMap.{BTreeMap}
+use Rattle.std.specs.Coded.{Coded, coded_list, coded_ℕ}
 use Rattle.std.specs.Cmp.Lexicographic.{slice_cmp}
-use Rattle.std.specs.FinMap.{FinMap, get, insert, remove, from_entries}
+use Rattle.std.specs.FinMap.{FinMap, code, get, insert, remove, from_entries}
 
 -- Files by name, a name being its bytes.
 abbrev pub Files : Type 0
 Files = FinMap (slice_cmp nat_cmp) (List ℕ)
+
+-- They are stored as the list of their entries.
+abbrev pub files_code : Coded Files
+files_code = code (coded_list coded_ℕ) (coded_list coded_ℕ)
 
 -- The bytes of the file that has the name, if one has it.
 abbrev pub file_of : Files → List ℕ → Option (List ℕ)

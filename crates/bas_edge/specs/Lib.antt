@@ -1,4 +1,5 @@
 pub mod Errors
+pub mod Failures
 pub mod Faults
 pub mod Fetched
 pub mod Files

@@ -16,13 +16,11 @@ pub struct CalmShelf {
 }
 
 impl Model for CalmShelf {
-    ghost use Rattle.bas_edge.specs.Files.{Files};
-    ghost use Rattle.std.specs.FinMap as finite;
-    ghost use Rattle.std.specs.Coded.{coded_list, coded_ℕ};
+    ghost use Rattle.bas_edge.specs.Files.{Files, files_code};
 
     ghost Value = { Files };
 
-    ghost coded = { finite.code (coded_list coded_ℕ) (coded_list coded_ℕ) };
+    ghost coded = { files_code };
 
     ghost view = { λ shelf. shelf.store };
 }

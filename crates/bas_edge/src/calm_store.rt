@@ -17,13 +17,11 @@ pub struct CalmStore {
 }
 
 impl Model for CalmStore {
-    ghost use Rattle.bas_edge.specs.Files.{Files, files_in};
-    ghost use Rattle.std.specs.FinMap as finite;
-    ghost use Rattle.std.specs.Coded.{coded_list, coded_ℕ};
+    ghost use Rattle.bas_edge.specs.Files.{Files, files_code, files_in};
 
     ghost Value = { Files };
 
-    ghost coded = { finite.code (coded_list coded_ℕ) (coded_list coded_ℕ) };
+    ghost coded = { files_code };
 
     ghost view = { λ store. files_in store.files };
 }

@@ -21,7 +21,12 @@ pub enum Fetched {
 }
 
 /// Reads a whole file that is at most `limit` bytes long.
-pub fn fetch<F: Shelf>(alloc: Global, shelf: &mut F, name: &str, limit: u64) -> Result<Fetched, EdgeError>
+pub fn fetch<F: Shelf>(
+    alloc: Global,
+    shelf: &mut F,
+    name: &str,
+    limit: u64,
+) -> Result<Fetched, EdgeError>
     ensures found { IfOk result (λ fetched. ForSome (F.files shelf.old) (λ told. fetched ≡ fetched_of (file_of told name.now) limit)) }
     ensures limited { IfOk result (IsWithinLimit limit) }
     ensures same { F.files shelf.new ≡ F.files shelf.old }

@@ -2,23 +2,35 @@
 //! Each trait has a written meaning and a count of faults, and forms in memory that keep it.
 #![tactic(auto)]
 
+mod byte_sink;
+mod byte_source;
 mod calm_shelf;
 mod calm_sink;
 mod calm_source;
 mod calm_store;
 mod errors;
+mod failures;
 mod fetched;
+mod map_shelf;
+mod map_store;
 mod shelf;
 mod sink;
 mod source;
 mod store;
+#[cfg(test)]
+mod tests;
 
+pub use byte_sink::ByteSink;
+pub use byte_source::ByteSource;
 pub use calm_shelf::CalmShelf;
 pub use calm_sink::CalmSink;
 pub use calm_source::CalmSource;
 pub use calm_store::CalmStore;
 pub use errors::{EdgeError, Failed, Memory};
-pub use fetched::{fetch, Fetched};
+pub use failures::Failures;
+pub use fetched::{Fetched, fetch};
+pub use map_shelf::MapShelf;
+pub use map_store::MapStore;
 pub use shelf::Shelf;
 pub use sink::Sink;
 pub use source::Source;

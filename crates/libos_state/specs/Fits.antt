@@ -23,6 +23,7 @@ use Rattle.libos_state.specs.declared.cont.Event.TheVariants as event
 use Rattle.libos_state.specs.declared.cont.Stage.{Stage}
 use Rattle.libos_state.specs.declared.cont.Stage.TheVariants.{SetContext, Resume, CloseHandles, ExitProcess, ReadMemory, WriteStream, Configure, OpenConsole, OpenProgram, ProgramLength, ReadProgram, CloseProgram, CreateProcess, AllocateRun, WriteRun, ProtectRun, AllocateStack, WriteBlock, CreateThread, CreateEvent, StartThread}
 use Rattle.libos_state.specs.declared.notes.Description.{Description}
+use Rattle.libos_state.specs.declared.notes.Kind.TheVariants.{ConIn}
 use Rattle.libos_state.specs.declared.notes.ProcessNote.{ProcessNote}
 use Rattle.libos_state.specs.declared.notes.ThreadNote.{ThreadNote}
 use Rattle.libos_state.specs.declared.state.Boot.{Boot}
@@ -45,7 +46,8 @@ abbrev pub Closable : Live → List ℕ → Type 0
 Closable live [] = Unit {0}
 Closable live (h ∷ hs) = (is_closable (get {R = nat_cmp} live h) ≡ true) × (contains hs h ≡ false) × Closable live hs
 
--- The records of the process and of its thread fit their objects, and so do the open descriptions.
+-- The records of the process and of its thread fit their objects, and so do the open descriptions; the console's input
+-- isn't open for writing.
 pub record FitsRecords (os : LibOs) (live : Live) (process : ProcessNote) (thread : ThreadNote) : Type 0 where
   pub processes : os.processes ≡ process ∷ []
   pub threads : os.threads ≡ thread ∷ []
@@ -57,9 +59,11 @@ pub record FitsRecords (os : LibOs) (live : Live) (process : ProcessNote) (threa
   pub object : get {R = nat_cmp} live thread.handle ≡ Some (Thread process.handle context)
   pub closable : Closable live (handles_of os)
   pub streams : (id : ℕ) (d : Description) → description_named id os.descriptions ≡ Some d → get {R = nat_cmp} live d.handle ≡ Some (Stream (stream_of_kind d.kind))
+  pub inputs : (id : ℕ) (d : Description) → description_named id os.descriptions ≡ Some d → d.kind ≡ ConIn → bit_and d.access 2 ≢ 2
 
 -- Nothing is in progress, and the process runs.
 pub record FitsIdle (os : LibOs) (o : Objects) : Type 0 where
+  pub up : os.boot ≡ boot.Up
   pub process : ProcessNote
   pub thread : ThreadNote
   pub records : FitsRecords os o.live process thread

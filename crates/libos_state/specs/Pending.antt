@@ -1,5 +1,5 @@
 -- The call that a service makes next: one for each stage.
-use Rattle.std.specs.Prelude.{ℕ, ◌+◌, ◌-◌, ◌*◌, ◌==◌, false, if◌then◌else◌, List, [], length, take, drop, min, slice_index, slice_get, unwrap_or}
+use Rattle.std.specs.Prelude.{ℕ, ◌+◌, ◌-◌, ◌*◌, ◌%◌, ◌==◌, false, if◌then◌else◌, List, [], length, take, drop, min, slice_index, slice_get, unwrap_or}
 use Rattle.std.specs.declared.option.Option.{Option}
 use Rattle.std.specs.declared.option.Option.TheVariants.{None, Some}
 use Rattle.abi_calls.specs.declared.call.Call.{Call}
@@ -81,7 +81,7 @@ abbrev pub asked : LibOs → Cont → Stage → Call
 asked os c SetContext = ThreadContext (upcall_in c.event).thread c.next
 asked os c Resume = ThreadResume (upcall_in c.event).thread
 asked os c CloseHandles = Close (handle c 0)
-asked os c ExitProcess = ProcessExit (upcall_in c.event).process (number c 0)
+asked os c ExitProcess = ProcessExit (upcall_in c.event).process (number c 0 % 256)
 asked os c ReadMemory = MemoryRead (upcall_in c.event).process (argument c 1) (moved (argument c 2))
 asked os c WriteStream = StreamWrite (wanted_stream os c) (number c 0) c.bytes
 asked os c stage.Configure = Configure os.settings no_positions

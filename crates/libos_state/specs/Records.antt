@@ -1,5 +1,5 @@
 -- The records of the library OS, and what its machine is: the host's world through these records.
-use Rattle.std.specs.Prelude.{ℕ, ◌==◌, List, [], map, find, filter_map}
+use Rattle.std.specs.Prelude.{ℕ, ◌==◌, List, [], map, find, filter_map, replicate}
 use Rattle.std.specs.Ordering.{nat_cmp}
 use Rattle.std.specs.FinMap.{FinMap, get, empty, from_entries}
 use Rattle.std.specs.Option.{option_map, unwrap_or}

@@ -1,6 +1,6 @@
-ghost use Rattle.std.specs.Prelude.{◌≡◌, ◌<◌, ◌≤◌, ◌^◌, ◌+◌, ◌-◌, IsTrue, IfSome};
-ghost use Rattle.rv_core.specs.Listing.{U, J, I, S, B, R, Shift, ShiftW, Ignored, Whole, NamesRegisters, bits, form, decoded};
-ghost use Rattle.rv_core.specs.Encoding.{is_signed_by, is_below, unsigned_by, has_registers, registers, store_bits, branch_bits, jump_bits, encoded_as, encoded};
+ghost use Rattle.std.specs.Prelude.{◌≡◌, ◌<◌, ◌≤◌, ◌^◌, ◌+◌, IsTrue, IfSome};
+ghost use Rattle.rv_core.specs.Listing.{U, J, I, S, B, R, Shift, ShiftW, Whole, NamesRegisters, form, decoded};
+ghost use Rattle.rv_core.specs.Encoding.{is_signed_by, is_below, unsigned_by, has_registers, registers, encoded_as, encoded};
 
 use crate::fields::bits;
 use crate::instr::{Instr, Op};

@@ -1,9 +1,8 @@
-ghost use Rattle.std.specs.Prelude.{◌≡◌, ◌<◌, ◌%◌, ◌^◌, ◌+◌};
-ghost use Rattle.std.specs.Int.{cast_unsigned, w64};
+ghost use Rattle.std.specs.Prelude.{◌≡◌, ◌<◌};
 ghost use Rattle.rv_core.specs.Memory.{Memory, IsSize};
 ghost use Rattle.rv_core.specs.Listing.{NamesRegisters};
-ghost use Rattle.rv_core.specs.Rows.{row, HasSize};
-ghost use Rattle.rv_core.specs.Machine.{register, with_register, at, next, sets, jumps, branches, loads, stores, outcome, executed, instruction, instructions, Gives, Ends};
+ghost use Rattle.rv_core.specs.Rows.{HasSize};
+ghost use Rattle.rv_core.specs.Machine.{register, with_register, at, next, jumps, stores, outcome, executed, instruction, instructions, Gives, Ends};
 
 use crate::cells::Cells;
 use crate::context::{Context, Ended, Trap};

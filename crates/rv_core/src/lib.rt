@@ -10,6 +10,8 @@ mod hart;
 mod instr;
 mod opcodes;
 mod rows;
+#[cfg(test)]
+mod tests;
 
 pub use cells::Cells;
 pub use context::{Context, Ended, Trap};

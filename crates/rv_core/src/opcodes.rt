@@ -1,4 +1,4 @@
-ghost use Rattle.std.specs.Prelude.{◌≡◌, ◌<◌, ◌%◌, ◌^◌, ◌+◌, IfSome, true};
+ghost use Rattle.std.specs.Prelude.{◌≡◌, IfSome, true};
 ghost use Rattle.rv_core.specs.Listing.{B, I, S, Ignored, Whole, form, has_form};
 ghost use Rattle.rv_core.specs.Opcodes.{branch_of, load_of, store_of, immediate_of, register_of, immediate_32_of, register_32_of, fence_of, system_of, op_of, IsFormOf};
 

@@ -1,0 +1,88 @@
+-- The first refusal of the program headers.
+use Rattle.std.proofs.Common.{◌≡◌, ℕ, zero, suc, ◌+◌, ◌-◌, ◌*◌, ◌^◌, ◌<◌, ◌≤◌, ◌/◌, Bool, true, false, cond, ltb, length, List, Option, Some, None, refl, ap, ◌∙◌, sym, subst, arith, add-one, ⊎_elim}
+use Rattle.std.proofs.lemmas.Bool.{and_cases, or_parts, both_ways, ltb-false, cond_both}
+use Rattle.elf_loader.specs.declared.ElfError.{ElfError}
+use Rattle.elf_loader.specs.declared.ElfError.TheVariants.{Interp, Segment, Overlap}
+use Rattle.elf_loader.specs.Fields.{e_phnum, program_header}
+use Rattle.elf_loader.specs.Segments.{is_segment, memory_end, last_page, meets, end_page, IsPlaced}
+use Rattle.elf_loader.specs.Refusal.{or_later, is_misplaced, leaves_file, leaves_pages, meets_earlier, header_refusal, header_refusals}
+use Rattle.elf_loader.proofs.Below.{at_last, any_below-false, max_below-le}
+
+or_later-none : (first later : Option ElfError) → or_later first later ≡ None → (first ≡ None) × (later ≡ None)
+or_later-none None later none = (refl, none)
+or_later-none (Some error) later none = cc
+
+not_refused : (test : Bool) (error : ElfError) (later : Option ElfError) → cond test (Some error) later ≡ None → (test ≡ false) × (later ≡ None)
+not_refused true error later none = cc
+not_refused false error later none = (refl, none)
+
+module _ (file : List ℕ) where
+  pub header_refusals-none : header_refusals file 0 ≡ None
+  unfolding header_refusals
+  header_refusals-none = refl
+
+  pub header_refusals-more : (n : ℕ) → header_refusals file n ≡ None → header_refusal file n ≡ None → header_refusals file (n + 1) ≡ None
+  unfolding header_refusals
+  header_refusals-more n before here = rw (add-one, before, here) refl
+
+  -- the first refusal is that of all
+  pub header_refusals-first : (error : ElfError) (n i : ℕ) → i < n → header_refusals file i ≡ None → header_refusal file i ≡ Some error → header_refusals file n ≡ Some error
+  unfolding header_refusals
+  header_refusals-first error zero i below before here = absurd (omega arith)
+  header_refusals-first error (suc n) i below before here =
+      ⊎_elim
+      (λ (e : i ≡ n). rw (subst (λ k. header_refusals file k ≡ None) e before, subst (λ k. header_refusal file k ≡ Some error) e here) refl)
+      (λ (l : i < n). rw (header_refusals-first error n i l before here) refl)
+      (at_last i n below)
+
+  pub header_refusals-each : (n i : ℕ) → i < n → header_refusals file n ≡ None → header_refusal file i ≡ None
+  unfolding header_refusals
+  header_refusals-each zero i below none = absurd (omega arith)
+  header_refusals-each (suc n) i below none =
+      let parts = or_later-none (header_refusals file n) (header_refusal file n) none in
+      ⊎_elim
+      (λ (e : i ≡ n). subst (λ k. header_refusal file k ≡ None) (sym e) parts.1)
+      (λ (l : i < n). header_refusals-each n i l parts.0)
+      (at_last i n below)
+
+  -- a header that gives no refusal
+  header_refusal-parts : (i : ℕ) → header_refusal file i ≡ None → (is_misplaced file (program_header file i) ≡ false) × (meets_earlier file i ≡ false)
+  unfolding header_refusal
+  header_refusal-parts i none =
+      let second = (not_refused _ Interp _ none).1 in
+      let third = not_refused _ (Segment i) _ second in
+      (third.0, (not_refused _ (Overlap i) None third.1).0)
+
+  pub IsPlaced-from_none : (i : ℕ) → header_refusal file i ≡ None → is_segment (program_header file i) ≡ true → IsPlaced file (program_header file i)
+  unfolding is_misplaced leaves_file
+  IsPlaced-from_none i none segment =
+      let h = program_header file i in
+      let rest = ⊎_elim (λ (e : is_segment h ≡ false). absurd (both_ways _ e segment)) (λ e. e) (and_cases (is_segment h) _ (header_refusal-parts i none).0) in
+      let size = or_parts (ltb h.p_memsz h.p_filesz) _ rest in
+      let places = or_parts (leaves_file file h) (leaves_pages h) size.1 in
+      let limits = or_parts (ltb h.p_vaddr 4096) (ltb ((2 ^ 26 - 16) * 4096) (memory_end h)) places.1 in
+      record {
+        fits = ltb-false h.p_memsz h.p_filesz size.0;
+        in_file = λ some.
+          ⊎_elim
+          (λ (e : ltb 0 h.p_filesz ≡ false). let none = ltb-false 0 h.p_filesz e in absurd (omega arith))
+          (λ (e : ltb (length file) (h.p_offset + h.p_filesz) ≡ false). ltb-false (length file) (h.p_offset + h.p_filesz) e)
+          (and_cases (ltb 0 h.p_filesz) _ places.0);
+        above = ltb-false h.p_vaddr 4096 limits.0;
+        below = ltb-false ((2 ^ 26 - 16) * 4096) (memory_end h) limits.1
+      }
+
+  pub meets-from_none : (i j : ℕ) → j < i → header_refusal file i ≡ None → meets (program_header file i) (program_header file j) ≡ false
+  unfolding meets_earlier
+  meets-from_none i j below none = any_below-false (λ k. meets (program_header file i) (program_header file k)) i j below (header_refusal-parts i none).1
+
+-- the pages end below those of the stack
+pub end_page-small : (file : List ℕ) → header_refusals file (e_phnum file) ≡ None → end_page file ≤ 2 ^ 26 - 16
+unfolding end_page
+end_page-small file none =
+    max_below-le (λ i. cond (is_segment (program_header file i)) (last_page (program_header file i) + 1) 0) (2 ^ 26 - 16) (e_phnum file)
+    (λ i below.
+      let h = program_header file i in
+      cond_both (is_segment h) (last_page h + 1) 0 (λ x. x ≤ 2 ^ 26 - 16)
+      (λ segment. let placed = IsPlaced-from_none file i (header_refusals-each file (e_phnum file) i below none) segment in let limit = placed.below in omega arith)
+      (λ other. omega arith))

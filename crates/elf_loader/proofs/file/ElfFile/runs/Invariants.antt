@@ -1,0 +1,15 @@
+use Rattle.std.proofs.Common.{◌≡◌, ◌-◌, ◌≤◌, ◌++◌, filter}
+use Rattle.std.specs.List.{range_with_len}
+use Rattle.elf_loader.specs.Segments.{is_touched, end_page}
+use Rattle.elf_loader.specs.Refusal.{pages}
+use Rattle.elf_loader.specs.Image.{runs_of}
+use Rattle.elf_loader.proofs.file.ElfFile.runs.Given as goal
+
+abbrev pub invariant-loop-page : goal.invariant-loop-page
+invariant-loop-page l = record {
+  within : l.from ≤ end_page l.self.bytes.now;
+  runs : runs_of l.self.bytes.now (pages l.self.bytes.now) ≡ l.runs ++ runs_of l.self.bytes.now (filter (is_touched l.self.bytes.now) (range_with_len l.from (end_page l.self.bytes.now - l.from)))
+}
+
+abbrev pub decreases-loop-page : goal.decreases-loop-page
+decreases-loop-page l = end_page l.self.bytes.now - l.from

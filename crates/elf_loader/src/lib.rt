@@ -1,0 +1,129 @@
+//! Executable files of ELF-64 for RISC-V, as runs of pages of memory.
+#![tactic(auto)]
+
+ghost use Rattle.std.specs.Prelude.{◌≡◌, IfOk};
+ghost use Rattle.elf_loader.specs.Image.{Tells, loaded};
+
+use bas_items::Items;
+use std::alloc::{AllocError, Global};
+use thiserror::Error;
+
+use crate::file::ElfFile;
+use crate::header::PAGE_SIZE;
+
+mod check;
+mod file;
+mod header;
+mod image;
+mod pages;
+
+/// What a program asks for in memory.
+#[derive(Debug, Drop)]
+pub struct Program {
+    /// The address of the first instruction.
+    pub entry: u64,
+    /// Runs of pages, rising.
+    pub runs: Items<Run>,
+    /// The address after the last page.
+    pub end: u64,
+}
+
+/// Adjacent pages of 4,096 bytes with equal rights.
+#[derive(Debug, Drop)]
+pub struct Run {
+    /// The number of the first page, which begins at address 4,096 times that number.
+    pub page: u64,
+    /// The sum of 1 to read, 2 to write and 4 to run.
+    pub rights: u8,
+    /// The bytes of all the pages.
+    pub bytes: Items<u8>,
+}
+
+/// Why a file is no program that can be loaded: the first of these that fits.
+#[derive(Clone, Copy, Debug, PartialEq, Eq, Error)]
+pub enum ElfError {
+    /// The file has fewer than 64 bytes.
+    #[error("shorter than a file header")]
+    Short,
+    /// The first four bytes aren't those of an ELF file.
+    #[error("no ELF file")]
+    Magic,
+    /// The class isn't 64 bits.
+    #[error("not of 64 bits")]
+    Class,
+    /// The byte order isn't little-endian.
+    #[error("not little-endian")]
+    Order,
+    /// The type isn't that of an executable file.
+    #[error("not executable")]
+    Kind,
+    /// The machine isn't RISC-V.
+    #[error("not for RISC-V")]
+    Machine,
+    /// The entries of the program header table aren't of 56 bytes, or the table leaves the file.
+    #[error("no table of program headers")]
+    Table,
+    /// A program header asks for an interpreter.
+    #[error("asks for an interpreter")]
+    Interp,
+    /// The program header of that number has more bytes in the file than in memory, or leaves the file or the
+    /// pages of a process.
+    #[error("segment {0} is misplaced")]
+    Segment(u64),
+    /// The segment of that number shares an address with an earlier one.
+    #[error("segment {0} overlaps")]
+    Overlap(u64),
+    /// The program has more than 1,008 pages.
+    #[error("too many pages")]
+    Big,
+    /// The entry isn't a multiple of 4 in a page with the right to run.
+    #[error("no entry")]
+    Entry,
+}
+
+/// Why there is no program.
+#[derive(Clone, Copy, Debug, PartialEq, Eq, Error)]
+pub enum LoadError {
+    /// The file is refused.
+    #[error("{0}")]
+    Refused(ElfError),
+    /// Memory ran out.
+    #[error("out of memory")]
+    Memory,
+}
+
+impl From<ElfError> for LoadError {
+    ghost use Rattle.elf_loader.specs.declared.LoadError.TheVariants.{Refused};
+
+    ghost from_gives = { λ error e. e ≡ Refused error };
+
+    fn from(error: ElfError) -> LoadError {
+        LoadError::Refused(error)
+    }
+}
+
+impl From<AllocError> for LoadError {
+    ghost use Rattle.elf_loader.specs.declared.LoadError.TheVariants.{Memory};
+
+    ghost from_gives = { λ _ e. e ≡ Memory };
+
+    fn from(_e: AllocError) -> LoadError {
+        LoadError::Memory
+    }
+}
+
+/// The program of an ELF file, or the first refusal that fits.
+pub fn load(alloc: Global, bytes: &[u8]) -> Result<Program, LoadError>
+    ensures exact { Tells result (loaded bytes.now) }
+{
+    let file = ElfFile::open(bytes)?;
+    file.check_headers()?;
+    file.check_program()?;
+    let end = file.end_page();
+    let runs = file.runs(alloc, end)?;
+    Ok(Program {
+        entry: file.entry(),
+        runs,
+        end: PAGE_SIZE * end,
+    })
+}

@@ -1,0 +1,12 @@
+pub mod Holds
+pub mod Bases
+pub mod Rows
+pub mod Idle
+pub mod Served
+pub mod Resuming
+pub mod Writing
+pub mod Ending
+pub mod Turning
+pub mod Entering
+pub mod Taken
+pub mod Answering
