@@ -4,3 +4,4 @@ pub mod Counts
 pub mod Lists
 pub mod Rows
 pub mod EndedThreads
+pub mod MemoryRows

@@ -70,15 +70,21 @@ impl<N: Numbers + Drop, V: Drop> Handles<N, V> {
         }
     }
 
+    /// Puts a value in the place of the one under a number, which is given back. Takes no memory.
+    pub fn replace(&mut self, number: u64, value: V) -> V
+        requires { IsSome (map.get self.old number) }
+        ensures before { map.get self.old number ≡ Some result }
+        ensures after { self.new ≡ map.insert self.old number value }
+    {
+        self.table.replace(number, value)
+    }
+
     /// Puts a value in the place of the one under a number. Takes no memory.
     pub fn set(&mut self, number: u64, value: V)
         requires { IsSome (map.get self.old number) }
         ensures { self.new ≡ map.insert self.old number value }
     {
-        match self.table.insert(number, value) {
-            Ok(()) => {}
-            Err(_) => unreachable!(),
-        }
+        self.table.replace(number, value);
     }
 
     /// Ends a number with the value under it.

@@ -5,6 +5,7 @@
 mod counting;
 mod handles;
 mod kinds;
+mod memory;
 mod numbers;
 mod objects;
 mod processes;

@@ -48,11 +48,10 @@ impl<V: Drop> Table<V> {
         self.entries.get(&number)
     }
 
-    /// Sets the value of a number. Memory can be wanting only for a number that has none.
+    /// Sets the value of a number.
     pub(crate) fn insert(&mut self, number: u64, value: V) -> Result<(), Memory>
         ensures ok { OnOk result (self.new ≡ map.insert self.old number value) }
         ensures err { OnErr result (self.new ≡ self.old) }
-        ensures absent { OnErr result (map.get self.old number ≡ None) }
     {
         match self.entries.insert(number, value) {
             Ok(_) => Ok(()),
