@@ -5,3 +5,4 @@ pub mod Lists
 pub mod Rows
 pub mod EndedThreads
 pub mod MemoryRows
+pub mod TurnSteps

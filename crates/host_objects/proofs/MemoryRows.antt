@@ -1,8 +1,7 @@
 -- Rows of the calls on memory, by what the pages of the process answer.
 use Rattle.std.specs.Prelude.{◌≡◌, ℕ, ◌+◌, ◌-◌, ◌^◌, ◌<◌, ◌≤◌, ◌==◌, ◌||◌, ◌&&◌, not, Bool, true, false, nat_lt, nat_le, List, length, is_some, IsSome, unwrap_or, Result, Ok, Err, IfOk, OnErr}
 use Rattle.std.specs.Option.{option_map, option_or}
-use Rattle.std.specs.FinMap.{get, insert, len}
-use Rattle.std.specs.Ordering.{nat_cmp}
+use Rattle.std.specs.FinMap.{get, len}
 use Rattle.std.specs.declared.option.Option.{Option}
 use Rattle.std.specs.declared.option.Option.TheVariants.{None, Some}
 use Rattle.std.proofs.Common.{refl, sym, ap, subst, ◌∙◌, cond, arith}
@@ -14,13 +13,13 @@ use Rattle.guest_space.proofs.FirstSome.{first_some_none_at}
 use Rattle.guest_space.specs.Access.{AccessFault, Missing, Forbidden, first_fault, with_bytes}
 use Rattle.guest_memory.specs.declared.error.PageError.{PageError}
 use Rattle.guest_memory.specs.declared.error.PageError.TheVariants.{Overlap, Unmapped, Denied, Range, Full, Memory as NoMemory}
-use Rattle.guest_memory.specs.Refusals.{allocate_refusal, protect_refusal, fault_of_error}
-use Rattle.abi_calls.specs.declared.object.Object.TheVariants.{Process, Thread, Event, Stream}
+use Rattle.guest_memory.specs.Refusals.{allocate_refusal, protect_refusal}
+use Rattle.abi_calls.specs.declared.object.Object.TheVariants.{Process, Event}
 use Rattle.abi_calls.specs.declared.call.Call.{Call}
 use Rattle.abi_calls.specs.declared.call.Call.TheVariants.{MemoryAllocate, MemoryProtect, MemoryWrite}
 use Rattle.abi_calls.specs.declared.reply.Reply.{Reply}
-use Rattle.abi_calls.specs.declared.reply.Reply.TheVariants.{Done, Exists, NoRoom, NoAccess, BadAddress}
-use Rattle.abi_calls.specs.Objects.{Object, Objects, Live, object_at, running, with_object}
+use Rattle.abi_calls.specs.declared.reply.Reply.TheVariants.{Done, Exists, NoRoom, BadAddress}
+use Rattle.abi_calls.specs.Objects.{Objects, Live, object_at, running, with_object}
 use Rattle.abi_calls.specs.World.{World, Contents, Answer}
 use Rattle.abi_calls.specs.Memory.{with_pages, allocated, reprotected, memory_written, unless_fault}
 use Rattle.abi_calls.specs.Abi.{answer, IsNew}

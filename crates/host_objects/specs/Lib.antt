@@ -4,3 +4,4 @@ pub mod Handles
 pub mod Objects
 pub mod Streams
 pub mod Taken
+pub mod Turns

@@ -13,6 +13,7 @@ mod settings;
 mod streams;
 mod table;
 mod threads;
+mod turns;
 
 pub use counting::Counting;
 pub use handles::Handles;

@@ -1,7 +1,10 @@
-ghost use Rattle.std.specs.Prelude.{◌≡◌, ◌×◌, slice_index};
+ghost use Rattle.std.specs.Prelude.{◌≡◌, slice_index};
+ghost use Rattle.abi_calls.specs.declared.object.Object.TheVariants.{Thread};
+ghost use Rattle.abi_calls.specs.Objects.{object_at};
 ghost use Rattle.abi_calls.specs.Sound.{IsSound};
 ghost use Rattle.abi_calls.specs.Turn.{turned};
 ghost use Rattle.host_objects.specs.Objects.{objects_of};
+ghost use Rattle.host_objects.specs.Turns.{HasHome, RunsSlice};
 
 use crate::numbers::Numbers;
 use crate::objects::Objects;
@@ -24,7 +27,8 @@ impl<N: Numbers + Drop> Objects<N> {
         requires idle { (objects_of self.old).current ≡ None }
         ensures { turned (objects_of self.old) ≡ (result, objects_of self.new) }
     {
-        let Some(thread) = self.schedule.pick(self.word()) else {
+        let word = self.word();
+        let Some(thread) = self.schedule.pick(word) else {
             return Turned::Stuck;
         };
         self.positions.turns = self.positions.turns.wrapping_add(1);
@@ -55,20 +59,28 @@ impl<N: Numbers + Drop> Objects<N> {
         }
     }
 
+    /// The process and the registers of a thread.
+    fn home(&self, thread: u64) -> (u64, Context)
+        requires { HasHome (objects_of self.now) thread }
+        ensures { object_at (objects_of self.now) thread ≡ Some (Thread result.0 result.1) }
+    {
+        match self.handles.get(thread) {
+            Some(Object::Thread { process, context }) => (*process, *context),
+            _ => unreachable!(),
+        }
+    }
+
     /// Runs a thread in the pages of its process.
     fn run(&mut self, thread: u64) -> Slice
         requires { HasHome (objects_of self.old) thread }
         ensures { RunsSlice (objects_of self.old) thread result (objects_of self.new) }
     {
-        let Some(Object::Thread { process, context }) = self.handles.get(thread) else {
-            unreachable!();
-        };
-        let process = *process;
-        let mut context = *context;
+        let most = self.settings.slice;
+        let (process, mut context) = self.home(thread);
         let Some(mut memory) = self.take_memory(process) else {
             unreachable!();
         };
-        let ended = memory.run(&mut context, self.settings.slice);
+        let ended = memory.run(&mut context, most);
         self.put_memory(process, memory);
         self.handles
             .set(thread, Object::Thread { process, context });

@@ -1,4 +1,3 @@
-use Rattle.std.proofs.Common.{rules, sym, ap, ◌∙◌}
 use Rattle.host_objects.specs.Objects.{objects_of}
 use Rattle.host_objects.proofs.MemoryRows.{took_there, put_same, allocate_done, allocate_refused, on_err}
 use Rattle.host_objects.proofs.objects.Objects.memory_allocate.Goals as goal
