@@ -1,10 +1,10 @@
 -- The map of a list of entries, by its look-ups.
-use Rattle.std.specs.Prelude.{◌≡◌, ℕ, Bool, true, false, ◌&&◌, List, [], ◌∷◌, length, map}
-use Rattle.std.specs.List.{AllByRecursion}
+use Rattle.std.specs.Prelude.{◌≡◌, ℕ, Bool, true, false, ◌==◌, ◌&&◌, ◌||◌, List, [], ◌∷◌, length, map}
+use Rattle.std.specs.List.{AllByRecursion, list_any}
 use Rattle.std.specs.List.Sorted.{IsStrictlySortedBy}
 use Rattle.std.specs.declared.cmp.Ordering.TheVariants.{Less}
-use Rattle.std.specs.Ordering.{nat_cmp, is_lt}
-use Rattle.std.specs.Cmp.{nat_cmp_total, eq_by_cmp_equiv}
+use Rattle.std.specs.Ordering.{nat_cmp, is_lt, eq_by_cmp}
+use Rattle.std.specs.Cmp.{nat_cmp_total, eq_by_cmp_equiv, unsigned_tied}
 use Rattle.std.specs.Map.{lookup}
 use Rattle.std.specs.BTreeMap.{is_at}
 use Rattle.std.specs.FinMap.Entries.{below_all}
@@ -12,6 +12,13 @@ use Rattle.std.specs.FinMap.{find, get, insert, remove, empty, from_entries, fro
 use Rattle.std.specs.declared.option.Option.TheVariants.{None, Some}
 use Rattle.std.proofs.Common.{refl, sym, ap, subst, ◌∙◌, cond, arith, T}
 use Rattle.abi_calls.proofs.NumberMaps.{get_none, get_same}
+
+-- A number's place among numbers, by either test.
+pub is_member_number : (xs : List ℕ) (q : ℕ) → list_any (eq_by_cmp nat_cmp q) xs ≡ list_any (λ k. k == q) xs
+is_member_number [] q = refl
+is_member_number (x ∷ xs) q =
+    let head : eq_by_cmp nat_cmp q x ≡ (x == q) = (eq_by_cmp_equiv nat_cmp_total).symm q x ∙ unsigned_tied x q in
+    ap (λ b. b || list_any (eq_by_cmp nat_cmp q) xs) head ∙ ap (λ b. (x == q) || b) (is_member_number xs q)
 
 both : (a b : Bool) → T a → T b → T (a && b)
 both true b p q = q

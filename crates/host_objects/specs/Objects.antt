@@ -1,10 +1,10 @@
 -- The objects of a host as a world sees them, and what a call on them alone answers.
-use Rattle.std.specs.Prelude.{[]}
+use Rattle.std.specs.Prelude.{◌≡◌, ℕ, false, []}
 use Rattle.std.specs.FinMap.{empty}
 use Rattle.std.specs.declared.option.Option.TheVariants.{None}
 use Rattle.abi_calls.specs.declared.call.Call.{Call}
 use Rattle.abi_calls.specs.declared.reply.Reply.{Reply}
-use Rattle.abi_calls.specs.Objects.{Objects}
+use Rattle.abi_calls.specs.Objects.{Objects, object_at, is_thread_of}
 use Rattle.abi_calls.specs.World.{World, Contents}
 use Rattle.abi_calls.specs.Abi.{Abi}
 use Rattle.host_objects.specs.declared.objects.Objects as kept
@@ -39,3 +39,7 @@ world o x = record { objects = o; contents = x }
 -- A call is answered from the objects alone, and changes nothing of the contents, whatever they are.
 pub record Row (o : Objects) (call : Call) (reply : Reply) (o' : Objects) : Type 0 where
   pub abi : (x : Contents) → Abi (world o x) call reply (world o' x)
+
+-- No object is a thread of a process.
+pub record HasNoThread (o : Objects) (process : ℕ) : Type 0 where
+  pub none : (h : ℕ) → is_thread_of process (object_at o h) ≡ false

@@ -1,7 +1,8 @@
-ghost use Rattle.std.specs.Prelude.{◌≡◌, ℕ, ◌^◌, ◌<◌, ◌↔◌, length, IsTrue, IsSome, IfOk, OnErr};
+ghost use Rattle.std.specs.Prelude.{◌≡◌, ℕ, ◌^◌, ◌<◌, ◌==◌, ◌↔◌, length, is_some, IsTrue, IsSome, IfOk, OnErr};
 ghost use Rattle.std.specs.Option.{option_copied};
 ghost use Rattle.std.specs.FinMap as map;
-ghost use Rattle.std.specs.Map.Iter.{ShowsInOrder, deref, deref_pair};
+ghost use Rattle.std.specs.List.{list_any};
+ghost use Rattle.std.specs.Map.Iter.{ShowsInOrder, deref};
 ghost use Rattle.host_objects.specs.Numbers.{IsUnused};
 ghost use Rattle.host_objects.specs.Handles.{Adds};
 
@@ -9,7 +10,7 @@ use crate::numbers::Numbers;
 use crate::table::Table;
 use bas_edge::Memory;
 use std::alloc::Global;
-use std::collections::btree_map::{Iter, Values};
+use std::collections::btree_map::{Keys, Values};
 use std::marker::Model;
 
 /// Values under numbers that are given when a value is added and taken back when it goes.
@@ -69,15 +70,21 @@ impl<N: Numbers + Drop, V: Drop> Handles<N, V> {
         }
     }
 
+    /// Puts a value in the place of the one under a number, which is given back. Takes no memory.
+    pub fn replace(&mut self, number: u64, value: V) -> V
+        requires { IsSome (map.get self.old number) }
+        ensures before { map.get self.old number ≡ Some result }
+        ensures after { self.new ≡ map.insert self.old number value }
+    {
+        self.table.replace(number, value)
+    }
+
     /// Puts a value in the place of the one under a number. Takes no memory.
     pub fn set(&mut self, number: u64, value: V)
         requires { IsSome (map.get self.old number) }
         ensures { self.new ≡ map.insert self.old number value }
     {
-        match self.table.insert(number, value) {
-            Ok(()) => {}
-            Err(_) => unreachable!(),
-        }
+        self.table.replace(number, value);
     }
 
     /// Ends a number with the value under it.
@@ -88,12 +95,12 @@ impl<N: Numbers + Drop, V: Drop> Handles<N, V> {
         self.numbers.back(number);
     }
 
-    /// The numbers with their values, by rising number.
-    pub fn iter(&self) -> Iter<'_, u64, V>
-        ensures rest { result ≡ map.entries self.now }
-        ensures runs { ShowsInOrder (deref_pair {K = ℕ} {X = V}) }
+    /// The numbers, by rising number.
+    pub fn numbers(&self) -> Keys<'_, u64, V>
+        ensures runs { ShowsInOrder (deref {X = ℕ}) }
+        ensures has { (q : ℕ) → is_some (map.get self.now q) ≡ list_any (λ k. k == q) result }
     {
-        self.table.iter()
+        self.table.numbers()
     }
 
     /// The values, by rising number.

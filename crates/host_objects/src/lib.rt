@@ -5,6 +5,7 @@
 mod counting;
 mod handles;
 mod kinds;
+mod memory;
 mod numbers;
 mod objects;
 mod processes;
@@ -12,6 +13,7 @@ mod settings;
 mod streams;
 mod table;
 mod threads;
+mod turns;
 
 pub use counting::Counting;
 pub use handles::Handles;

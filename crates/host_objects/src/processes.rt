@@ -1,8 +1,10 @@
-ghost use Rattle.std.specs.Prelude.{◌≡◌, ◌↔◌, IfOk, OnErr, IsTrue};
-ghost use Rattle.abi_calls.specs.declared.call.Call.TheVariants.{Close, ProcessCreate, Configure};
+ghost use Rattle.std.specs.Prelude.{◌≡◌, ◌↔◌, true, IfOk, IfSome, IfNone, OnErr, IsTrue};
+ghost use Rattle.abi_calls.specs.declared.call.Call.TheVariants.{Close, ProcessCreate, ProcessExit, Configure};
+ghost use Rattle.abi_calls.specs.Objects.{object_at, is_thread_of};
+ghost use Rattle.abi_calls.specs.Processes.{without_threads};
 ghost use Rattle.abi_calls.specs.Fresh.{IsFreshWorld};
 ghost use Rattle.abi_calls.specs.Sound.{IsSound};
-ghost use Rattle.host_objects.specs.Objects.{objects_of, Row};
+ghost use Rattle.host_objects.specs.Objects.{objects_of, Row, HasNoThread};
 
 use crate::numbers::Numbers;
 use crate::objects::Objects;
@@ -44,6 +46,55 @@ impl<N: Numbers + Drop> Objects<N> {
         let memory = Pages::new(self.alloc);
         let number = self.handles.add(Object::Process { memory, code: None })?;
         Ok(Reply::Handle(number))
+    }
+
+    /// ProcessExit.
+    pub(crate) fn process_exit(&mut self, process: u64, code: u8) -> Reply
+        ensures { Row (objects_of self.old) (ProcessExit process code) result (objects_of self.new) }
+    {
+        if self.memory(process).is_none() {
+            return Reply::BadHandle;
+        }
+        self.end_threads(process);
+        let exited = Object::Process {
+            memory: Pages::new(self.alloc),
+            code: Some(code),
+        };
+        self.handles.set(process, exited);
+        Reply::Done
+    }
+
+    /// Ends the threads of a process.
+    fn end_threads(&mut self, process: u64)
+        ensures { objects_of self.new ≡ without_threads (objects_of self.old) process }
+    {
+        while let Some(thread) = self.thread_of(process) {
+            self.handles.end(thread);
+            self.schedule.leave(thread);
+        }
+    }
+
+    /// The first thread of a process.
+    fn thread_of(&self, process: u64) -> Option<u64>
+        ensures found { IfSome result (λ thread. is_thread_of process (object_at (objects_of self.now) thread) ≡ true) }
+        ensures none { IfNone result (HasNoThread (objects_of self.now) process) }
+    {
+        for number in self.handles.numbers() {
+            if self.is_thread_of(*number, process) {
+                return Some(*number);
+            }
+        }
+        None
+    }
+
+    /// Whether a number is that of a thread of a process.
+    fn is_thread_of(&self, number: u64, process: u64) -> bool
+        ensures { result ≡ is_thread_of process (object_at (objects_of self.now) number) }
+    {
+        match self.handles.get(number) {
+            Some(Object::Thread { process: home, .. }) => *home == process,
+            _ => false,
+        }
     }
 
     /// Configure.

@@ -1,14 +1,16 @@
-ghost use Rattle.std.specs.Prelude.{◌≡◌, ℕ, ◌^◌, ◌<◌, ◌↔◌, length, IsTrue, IsSome, IfOk, OnOk, OnErr};
+ghost use Rattle.std.specs.Prelude.{◌≡◌, ℕ, ◌^◌, ◌<◌, ◌==◌, ◌↔◌, length, is_some, IsTrue, IsSome, IfOk, OnOk, OnErr};
 ghost use Rattle.std.specs.Option.{option_copied};
 ghost use Rattle.std.specs.Ordering.{nat_cmp};
 ghost use Rattle.std.specs.FinMap as map;
-ghost use Rattle.std.specs.Map.Iter.{ShowsInOrder, deref, deref_pair};
+ghost use Rattle.std.specs.List.{list_any};
+ghost use Rattle.std.specs.Map.Iter.{ShowsInOrder, deref};
 
 use bas_edge::Memory;
 use std::alloc::Global;
 use std::collections::BTreeMap;
-use std::collections::btree_map::{Iter, Values};
+use std::collections::btree_map::{Keys, Values};
 use std::marker::Model;
+use std::mem;
 
 /// A map from numbers to values.
 #[derive(Drop)]
@@ -46,15 +48,26 @@ impl<V: Drop> Table<V> {
         self.entries.get(&number)
     }
 
-    /// Sets the value of a number. Memory can be wanting only for a number that has none.
+    /// Sets the value of a number.
     pub(crate) fn insert(&mut self, number: u64, value: V) -> Result<(), Memory>
         ensures ok { OnOk result (self.new ≡ map.insert self.old number value) }
         ensures err { OnErr result (self.new ≡ self.old) }
-        ensures absent { OnErr result (map.get self.old number ≡ None) }
     {
         match self.entries.insert(number, value) {
             Ok(_) => Ok(()),
             Err(_) => Err(Memory),
+        }
+    }
+
+    /// Puts a value in the place of that of a number, which is given back. Takes no memory.
+    pub(crate) fn replace(&mut self, number: u64, value: V) -> V
+        requires { IsSome (map.get self.old number) }
+        ensures before { map.get self.old number ≡ Some result }
+        ensures after { self.new ≡ map.insert self.old number value }
+    {
+        match self.entries.get_mut(&number) {
+            Some(place) => mem::replace(place, value),
+            None => unreachable!(),
         }
     }
 
@@ -65,12 +78,12 @@ impl<V: Drop> Table<V> {
         self.entries.remove(&number);
     }
 
-    /// The numbers with their values, by rising number.
-    pub(crate) fn iter(&self) -> Iter<'_, u64, V>
-        ensures rest { result ≡ map.entries self.now }
-        ensures runs { ShowsInOrder (deref_pair {K = ℕ} {X = V}) }
+    /// The numbers, by rising number.
+    pub(crate) fn numbers(&self) -> Keys<'_, u64, V>
+        ensures runs { ShowsInOrder (deref {X = ℕ}) }
+        ensures has { (q : ℕ) → is_some (map.get self.now q) ≡ list_any (λ k. k == q) result }
     {
-        self.entries.iter()
+        self.entries.keys()
     }
 
     /// The values, by rising number.

@@ -1,0 +1,14 @@
+use Rattle.std.proofs.Common.{arith, refl, sym, ◌∙◌}
+use Rattle.host_objects.specs.Objects.{objects_of}
+use Rattle.host_objects.proofs.Lists.{other_than_kept}
+use Rattle.host_objects.proofs.EndedThreads.{len-remove_thread, ended_next, without_threads-none}
+use Rattle.host_objects.proofs.objects.Objects.end_threads.Goals as goal
+
+pub loop-thread-smaller : goal.loop-thread-smaller
+loop-thread-smaller g c = rw c.end.ensures (len-remove_thread c.loop-thread.self.handles c.args.process c.in-Some.thread c.in-Some.ensures.found)
+
+pub loop-thread-preserved : goal.loop-thread-preserved
+loop-thread-preserved g c = ended_next (objects_of c.loop-thread.self) (objects_of (record c.loop-thread.self { handles = c.end.new.self; schedule = c.leave.new.self })) c.args.process c.in-Some.thread c.in-Some.ensures.found refl (grind (arith, other_than_kept)) ∙ c.loop-thread.invariant
+
+pub returns : goal.returns
+returns g c = sym (without_threads-none (objects_of c.loop-thread.self) c.args.process c.in_default.ensures.none refl) ∙ c.loop-thread.invariant
