@@ -3,3 +3,7 @@ pub mod Serving
 pub mod Turns
 pub mod Boots
 pub mod Steps
+pub mod Quiet
+pub mod Starts
+pub mod Fronts
+pub mod Halting

@@ -1,2 +1,3 @@
 pub mod WhereTold
 pub mod Serves
+pub mod Halts
