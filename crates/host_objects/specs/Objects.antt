@@ -1,7 +1,9 @@
 -- The objects of a host as a world sees them, and what a call on them alone answers.
-use Rattle.std.specs.Prelude.{◌≡◌, ℕ, false, []}
+use Rattle.std.specs.Prelude.{◌≡◌, ℕ, Bool, true, false, []}
 use Rattle.std.specs.FinMap.{empty}
-use Rattle.std.specs.declared.option.Option.TheVariants.{None}
+use Rattle.std.specs.declared.option.Option.TheVariants.{None, Some}
+use Rattle.std.specs.declared.option.Option.{Option}
+use Rattle.abi_calls.specs.declared.call.Call.TheVariants.{StreamOpen, StreamRead, StreamWrite, StreamLength}
 use Rattle.abi_calls.specs.declared.call.Call.{Call}
 use Rattle.abi_calls.specs.declared.reply.Reply.{Reply}
 use Rattle.abi_calls.specs.Objects.{Objects, object_at, is_thread_of}
@@ -43,3 +45,21 @@ pub record Row (o : Objects) (call : Call) (reply : Reply) (o' : Objects) : Type
 -- No object is a thread of a process.
 pub record HasNoThread (o : Objects) (process : ℕ) : Type 0 where
   pub none : (h : ℕ) → is_thread_of process (object_at o h) ≡ false
+
+-- The calls that reach outside.
+abbrev pub is_outside : Call → Bool
+is_outside (StreamOpen name create exclusive) = true
+is_outside (StreamRead stream offset count) = true
+is_outside (StreamWrite stream offset bytes) = true
+is_outside (StreamLength stream) = true
+is_outside _ = false
+
+-- A call that reaches outside changes nothing yet.
+pub record IsPassedOn (o : Objects) (call : Call) (o' : Objects) : Type 0 where
+  pub outside : is_outside call ≡ true
+  pub same : o' ≡ o
+
+-- A call is answered from the objects alone, or passed on.
+abbrev pub Serves : Objects → Call → Option Reply → Objects → Type 0
+Serves o call None o' = IsPassedOn o call o'
+Serves o call (Some reply) o' = Row o call reply o'

@@ -2,6 +2,7 @@
 //! the lists of threads, and the calls and turns that need nothing of the outside.
 #![tactic(auto)]
 
+mod calls;
 mod counting;
 mod handles;
 mod kinds;
