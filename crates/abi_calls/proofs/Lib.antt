@@ -8,3 +8,4 @@ pub mod PositionsKept
 pub mod SoundChanges
 pub mod Sounds
 pub mod Worked
+pub mod SoundProp

@@ -8,3 +8,4 @@ pub mod Abi
 pub mod Turn
 pub mod Sound
 pub mod Fresh
+pub mod HostErrors

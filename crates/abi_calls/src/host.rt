@@ -7,10 +7,12 @@ ghost use Rattle.abi_calls.specs.Abi.{Answers, IsTaken, Leaves, raised, journall
 ghost use Rattle.abi_calls.specs.Turn.{turned};
 ghost use Rattle.abi_calls.specs.Sound.{IsSound};
 ghost use Rattle.abi_calls.specs.Fresh.{IsFreshWorld};
+ghost use Rattle.abi_calls.specs.HostErrors.{host_error};
 
 use crate::call::Call;
 use crate::reply::Reply;
 use crate::threads::Turned;
+use bas_edge::EdgeError;
 use thiserror::Error;
 
 /// Why a host gave no reply.
@@ -22,6 +24,17 @@ pub enum HostError {
     /// There was no memory.
     #[error("out of memory")]
     Memory,
+}
+
+impl From<EdgeError> for HostError {
+    ghost from_gives = { λ edge error. error ≡ host_error edge };
+
+    fn from(edge: EdgeError) -> HostError {
+        match edge {
+            EdgeError::Failed => HostError::Failed,
+            EdgeError::Memory => HostError::Memory,
+        }
+    }
 }
 
 /// An answered call: how many turns were made before it, the call, and its reply.

@@ -1,7 +1,9 @@
-//! The program: the words that it is run with, and the streams and files of the system as what a host stands on.
+//! The program: the words that it is run with, and the streams and files of the system as what the host stands on.
 #![tactic(auto)]
 
 use bas_edge::EdgeError;
+use bascule_top::{Outcome, bascule};
+use host_monitor::Monitor;
 use std::alloc::AllocError;
 use std::env;
 use std::io::ErrorKind;
@@ -9,20 +11,14 @@ use std::process::ExitCode;
 use std::rt::Env;
 
 mod folder;
+#[cfg(test)]
+mod runs;
 mod streams;
 #[cfg(test)]
 mod tests;
 
 use folder::Folder;
-
-/// The words are no command.
-const BAD_WORDS: u8 = 233;
-
-/// The system failed.
-const HOST_FAULT: u8 = 246;
-
-/// There was no memory.
-const OUT_OF_MEMORY: u8 = 249;
+use streams::{Reading, Writing};
 
 /// The words behind the program's name. There are none where one of them isn't UTF-8.
 fn words<R: Env + AllocGlobal>(rt: &R) -> Result<Vec<String>, AllocError> {
@@ -33,17 +29,23 @@ fn words<R: Env + AllocGlobal>(rt: &R) -> Result<Vec<String>, AllocError> {
     }
 }
 
-/// No words are a command yet.
-fn run(rt: &HostRuntime) -> Result<u8, EdgeError> {
-    let _words = words(rt)?;
-    let _store = Folder::new(rt.alloc(), rt)?;
-    Ok(BAD_WORDS)
+/// Does what the words say, over the streams and the files of the system.
+fn run(rt: &HostRuntime) -> Result<Outcome, EdgeError> {
+    let alloc = rt.alloc();
+    let words = words(rt)?;
+    let input = Reading::new(rt.stdin());
+    let output = Writing::new(rt.stdout());
+    let errors = Writing::new(rt.stderr());
+    let store = Folder::new(alloc, rt)?;
+    let mut host = Monitor::new(alloc, input, output, errors, store)?;
+    Ok(bascule(alloc, words.as_slice(), &mut host))
 }
 
 fn main(rt: HostRuntime) -> ExitCode {
-    ExitCode::from(match run(&rt) {
-        Ok(status) => status,
-        Err(EdgeError::Failed) => HOST_FAULT,
-        Err(EdgeError::Memory) => OUT_OF_MEMORY,
-    })
+    let outcome = match run(&rt) {
+        Ok(outcome) => outcome,
+        Err(EdgeError::Failed) => Outcome::HostFault,
+        Err(EdgeError::Memory) => Outcome::OutOfMemory,
+    };
+    ExitCode::from(outcome.code())
 }

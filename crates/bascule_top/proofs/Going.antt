@@ -1,19 +1,19 @@
 -- A run, one turn after another.
-use Rattle.std.proofs.Common.{◌≡◌, ◌≢◌, ℕ, suc, ◌+◌, ◌-◌, ◌%◌, ◌^◌, ◌<◌, List, [], refl, sym, ◌∙◌, ap, subst, arith}
-use Rattle.std.specs.FinMap.{empty}
+use Rattle.std.proofs.Common.{◌≡◌, ◌≢◌, ℕ, suc, ◌+◌, ◌%◌, ◌^◌, ◌<◌, refl, sym, ◌∙◌, ap, subst, arith}
+use Rattle.std.specs.Prelude.{true, false, is_some}
 use Rattle.std.specs.declared.option.Option.{Option}
 use Rattle.std.specs.declared.option.Option.TheVariants.{None, Some}
 use Rattle.abi_calls.specs.Objects.{Objects, risen}
 use Rattle.abi_calls.specs.World.{World, Contents, Told}
 use Rattle.mono_model.specs.Machine as mono
 use Rattle.mono_model.specs.Machine.{Mono}
-use Rattle.mono_model.specs.Turns.{Ending, Exited, Bound, run_of, turn_of}
+use Rattle.mono_model.specs.Turns.{run_of, turn_of}
 use Rattle.mono_model.proofs.RunLaws.{run_exited, run_bound, run_turn}
 use Rattle.libos_state.specs.declared.state.LibOs.{LibOs}
 use Rattle.libos_state.specs.Records.{base}
-use Rattle.libos_state.specs.Fits.{FitsUp, FitsIdle, FitsOver, exit_code}
+use Rattle.libos_state.specs.Fits.{FitsUp, FitsIdle, exit_code}
 use Rattle.libos_state.proofs.Idle.{exit_code_idle, exit_code_over, ready_idle}
-use Rattle.turn_engine.specs.WhereTold.{WhereTold, world}
+use Rattle.turn_engine.specs.WhereTold.{world}
 use Rattle.turn_engine.specs.Serves.{IsUp, MakesTurn}
 use Rattle.turn_engine.proofs.Telling.{told_same, told_then}
 use Rattle.bascule_top.specs.Runs.{GoesOn, EndsRun, end_by}
@@ -70,3 +70,11 @@ goes_ends made left n os os' o o' t t' all before made_all = record {
         (a.0, a.1, ap (λ k. run_of k (base os (world o x))) (sym all) ∙ a.2 ∙ ends_by os' o' a.0 left (exit_code os') (machine_code os' o' a.0 before.up) made_all);
   };
 }
+
+pub is_some_true : {A : Type 0} (a : Option A) → is_some a ≡ true → a ≢ None
+is_some_true None e none = absurd (cc)
+is_some_true (Some x) e none = absurd (cc)
+
+pub is_some_false : {A : Type 0} (a : Option A) → is_some a ≡ false → a ≡ None
+is_some_false None e = refl
+is_some_false (Some x) e = absurd (cc)

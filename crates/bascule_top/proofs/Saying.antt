@@ -1,5 +1,7 @@
 -- What the end of a start, and of its run, says of the outcome.
-use Rattle.std.proofs.Common.{◌≡◌, ℕ, ◌+◌, ◌%◌, ◌^◌, List, [], ◌∷◌, refl, sym, ◌∙◌, ap, subst}
+use Rattle.std.proofs.Common.{◌≡◌, ℕ, ◌+◌, ◌%◌, ◌^◌, List, [], ◌∷◌, true, length, nat_le, arith, refl, sym, ◌∙◌, ap, subst}
+use Rattle.std.proofs.lemmas.Bool.{and_parts, leb-true}
+use Rattle.std.specs.FinMap.{empty}
 use Rattle.std.specs.declared.option.Option.{Option}
 use Rattle.std.specs.declared.option.Option.TheVariants.{None, Some}
 use Rattle.bas_edge.specs.Files.{file_of}
@@ -9,7 +11,7 @@ use Rattle.abi_calls.specs.Fresh.{IsFreshWorld}
 use Rattle.abi_calls.specs.Sound.{IsSound}
 use Rattle.mono_model.specs.Machine.{Mono}
 use Rattle.mono_model.specs.Program.{Program, program_of}
-use Rattle.mono_model.specs.Starting.{Started, Runs, NoProgram, BadProgram, boot, blank, started_if, started_with, begun_from}
+use Rattle.mono_model.specs.Starting.{Runs, NoProgram, BadProgram, boot, blank, started_if, begun_from}
 use Rattle.mono_model.specs.Turns.{End, run_of, Ending}
 use Rattle.libos_state.specs.declared.state.LibOs.{LibOs}
 use Rattle.libos_state.specs.declared.state.Boot.{Boot}
@@ -19,25 +21,44 @@ use Rattle.libos_state.specs.declared.notes.ElfError.{ElfError}
 use Rattle.libos_state.specs.Entered.{booting}
 use Rattle.libos_state.specs.Records.{base}
 use Rattle.libos_state.specs.Meaning.{meaning, meant, meant_idle}
-use Rattle.libos_state.specs.Fits.{Fits, FitsCont, FitsBoot, exit_code}
-use Rattle.libos_state.proofs.Keeping.{Stands}
+use Rattle.libos_state.specs.Fits.{Fits, exit_code}
 use Rattle.libos_state.proofs.Beginning.{CanBoot, boot_fits}
-use Rattle.turn_engine.specs.WhereTold.{WhereTold, world, whole}
+use Rattle.turn_engine.specs.WhereTold.{WhereTold, world}
 use Rattle.turn_engine.specs.Serves.{Serves, IsUp}
-use Rattle.turn_engine.proofs.Steps.{settled_up, meaning_up}
-use Rattle.turn_engine.proofs.Telling.{told_then}
-use Rattle.bascule_top.specs.Commands.{TURNS, start_settings, start_job}
+use Rattle.turn_engine.proofs.Steps.{meaning_up}
+use Rattle.bascule_top.specs.declared.outcome.Outcome.{Outcome}
+use Rattle.bascule_top.specs.declared.outcome.Outcome.TheVariants as outcomes
+use Rattle.bascule_top.specs.Commands.{TURNS, is_name, start_settings, start_job}
 use Rattle.bascule_top.specs.Runs.{EndsRun, end_by}
-use Rattle.bascule_top.specs.Outcomes.{Agrees, RunsTo, IsNoProgram}
+use Rattle.bascule_top.specs.Outcomes.{RunsTo, IsNoProgram, Says}
+
+can_start : (name : List ℕ) → is_name name ≡ true → CanBoot name [] start_settings
+can_start name named =
+    let parts = and_parts (nat_le 1 (length name)) (nat_le (length name) 80) named in
+    record {
+      named = leb-true 1 (length name) parts.0;
+      short = leb-true (length name) 80 parts.1;
+      few = omega arith;
+      small = refl;
+      acceptable = refl;
+    }
+
+no_contents : Contents
+no_contents = record { files = empty; input = []; output = []; errors = [] }
+
+-- the library OS that begins fits a host that was not used
+pub start_fits : (name : List ℕ) (os : LibOs) (o : Objects) (answered : ℕ) → is_name name ≡ true → IsFreshWorld o answered → IsSound o → os ≡ booting name [] start_settings → Fits os o
+start_fits name os o answered named fresh sound is =
+    subst (λ (s : LibOs). Fits s o) (sym is) (boot_fits name [] start_settings (world o no_contents) answered (can_start name named) fresh sound).fits
 
 -- a start that is served to its end stands for the machine's start
 pub start_means : (name : List ℕ) (os os' : LibOs) (o o' : Objects) (t t' : Told) (answered : ℕ)
-    → CanBoot name [] start_settings → IsFreshWorld o answered → IsSound o → os ≡ booting name [] start_settings → Serves os o t os' o' t'
+    → is_name name ≡ true → IsFreshWorld o answered → IsSound o → os ≡ booting name [] start_settings → Serves os o t os' o' t'
     → WhereTold t t' (λ x y. meaning os' (world o' y) ≡ boot start_settings x (start_job name))
-start_means name os os' o o' t t' answered can fresh sound is serves = record {
+start_means name os os' o o' t t' answered named fresh sound is serves = record {
   holds = λ x e.
       let a = serves.means.holds x e in
-      (a.0, a.1, a.2 ∙ ap (λ (s : LibOs). meaning s (world o x)) is ∙ (boot_fits name [] start_settings (world o x) answered can fresh sound).means);
+      (a.0, a.1, a.2 ∙ ap (λ (s : LibOs). meaning s (world o x)) is ∙ (boot_fits name [] start_settings (world o x) answered (can_start name named) fresh sound).means);
 }
 
 runs_same : (m n : Mono) → Runs m ≡ Runs n → m ≡ n
@@ -97,6 +118,18 @@ none_says name os' o' t t' start none is = record {
       let a = start.holds x e in
       (a.0, a.1, no_file (blank start_settings (record { turns = 0; pick = 0; random = 0 }) x) (name ∷ []) (file_of x.files name) (sym a.2 ∙ meant_none os' (world o' a.0) os'.cont boots.NoProgram none is));
 }
+
+-- the outcome names the program that there isn't
+pub no_program_says : (outcome : Outcome) (name : List ℕ) (os' : LibOs) (o' : Objects) (t t' : Told)
+    → WhereTold t t' (λ x y. meaning os' (world o' y) ≡ boot start_settings x (start_job name)) → os'.cont ≡ None → os'.boot ≡ boots.NoProgram
+    → outcome ≡ outcomes.NoProgram name → Says outcome name t o' t'
+no_program_says outcome name os' o' t t' start none is named =
+    subst (λ (u : Outcome). Says u name t o' t') (sym named) (refl, none_says name os' o' t t' start none is)
+
+-- a run that isn't over has made all its turns
+pub bound_turns : (o o' o'' : Objects) (answered : ℕ) → IsFreshWorld o answered → o'.positions.turns ≡ o.positions.turns
+    → o''.positions.turns ≡ (o'.positions.turns + TURNS) % 2 ^ 64 → o''.positions.turns ≡ TURNS
+bound_turns o o' o'' answered fresh same after = after ∙ ap (λ n. (n + TURNS) % 2 ^ 64) (same ∙ fresh.turns)
 
 -- the file is no program
 pub bad_says : (name : List ℕ) (os' : LibOs) (o' : Objects) (t t' : Told) (cause : ElfError)

@@ -1,5 +1,5 @@
 -- What each outcome of a command says, in both directions: every line excludes the others.
-use Rattle.std.specs.Prelude.{◌≡◌, ℕ, List, []}
+use Rattle.std.specs.Prelude.{◌≡◌, ℕ, List}
 use Rattle.std.specs.declared.option.Option.{Option}
 use Rattle.std.specs.declared.option.Option.TheVariants.{None, Some}
 use Rattle.bas_edge.specs.Files.{file_of}
@@ -51,6 +51,16 @@ Says (BadProgram cause) name told o' told' = WhereTold told told' (λ x y. IsNoP
 Says BadWords name told o' told' = ⊥
 Says HostFault name told o' told' = Unit {0}
 Says OutOfMemory name told o' told' = Unit {0}
+
+-- The outcomes that a run gives: no fault and no want of memory.
+abbrev pub IsOfRun : Outcome → Type 0
+IsOfRun (Exited code) = Unit {0}
+IsOfRun (Bound turns) = Unit {0}
+IsOfRun (NoProgram named) = Unit {0}
+IsOfRun (BadProgram cause) = Unit {0}
+IsOfRun BadWords = Unit {0}
+IsOfRun HostFault = ⊥
+IsOfRun OutOfMemory = ⊥
 
 -- Words that are no command are refused, and nothing is done; a start says what its outcome says.
 abbrev pub Headline : Outcome → Option (List ℕ) → Objects → Told → Objects → Told → Type 0

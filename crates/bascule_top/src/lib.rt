@@ -2,5 +2,8 @@
 #![tactic(auto)]
 
 mod outcome;
+mod run;
+mod top;
 
 pub use outcome::Outcome;
+pub use top::bascule;

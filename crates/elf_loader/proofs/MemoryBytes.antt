@@ -8,7 +8,8 @@ use borrow.Rule.Slice.PartMut.{put_mid}
 use Rattle.elf_loader.proofs.Below.{at_last}
 use Rattle.elf_loader.specs.declared.header.ProgramHeader.{ProgramHeader}
 use Rattle.elf_loader.specs.Fields.{program_header}
-use Rattle.elf_loader.specs.Segments.{is_segment, memory_end, meets, covers, holds_file_byte, segment_byte, byte_below, IsPlaced}
+use Rattle.elf_loader.specs.Segments.{is_segment, memory_end, meets, covers, segment_byte, byte_below}
+use Rattle.elf_loader.specs.Steps.{holds_file_byte, IsPlaced}
 
 -- An element of a list of which a part was overwritten
 

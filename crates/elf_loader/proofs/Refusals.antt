@@ -5,7 +5,8 @@ use Rattle.std.proofs.lemmas.Nat.Bits.{bit_at-lt}
 use Rattle.elf_loader.specs.declared.ElfError.{ElfError}
 use Rattle.elf_loader.specs.declared.ElfError.TheVariants.{Interp, Segment, Overlap, Big, Entry}
 use Rattle.elf_loader.specs.Fields.{e_entry, e_phnum, program_header}
-use Rattle.elf_loader.specs.Segments.{is_segment, memory_end, last_page, meets, touches, segment_rights, page_rights, end_page, IsPlaced}
+use Rattle.elf_loader.specs.Segments.{is_segment, memory_end, last_page, meets, touches, segment_rights, page_rights, end_page}
+use Rattle.elf_loader.specs.Steps.{IsPlaced}
 use Rattle.elf_loader.specs.Refusal.{or_later, is_misplaced, leaves_file, leaves_pages, meets_earlier, file_refusal, header_refusal, header_refusals, refusal, pages, is_runnable, program_refusal}
 use Rattle.elf_loader.proofs.Below.{at_last, any_below-false, max_below-le, union_below-lt}
 
@@ -115,3 +116,6 @@ refusal-parts file none =
     let first = or_later-none (file_refusal file) _ none in
     let rest = or_later-none (header_refusals file (e_phnum file)) (program_refusal file) first.1 in
     (first.0, rest.0, rest.1)
+
+pub refusal-none : (file : List ℕ) → file_refusal file ≡ None → header_refusals file (e_phnum file) ≡ None → program_refusal file ≡ None → refusal file ≡ None
+refusal-none file first second third = rw (first, second, third) refl

@@ -5,7 +5,8 @@ use Rattle.std.proofs.lemmas.Bool.{and_left, and_right, and_from, and_parts, cas
 use Rattle.std.proofs.lemmas.List.{map-append}
 use Rattle.elf_loader.specs.declared.Run.{Run}
 use Rattle.elf_loader.specs.Fields.{e_phnum}
-use Rattle.elf_loader.specs.Segments.{is_touched, page_rights, has_rights, byte_below}
+use Rattle.elf_loader.specs.Segments.{is_touched, page_rights, byte_below}
+use Rattle.elf_loader.specs.Steps.{has_rights}
 use Rattle.elf_loader.specs.Image.{page_bytes, with_page, runs_of}
 use Rattle.elf_loader.proofs.PageLists.{filter-range_skip}
 

@@ -3,7 +3,8 @@ use Rattle.std.proofs.Common.{◌≡◌, ℕ, ◌+◌, ◌<◌, ◌≤◌, min, 
 use Rattle.std.proofs.lemmas.Bool.{or_left, or_right, or_from, and_left, and_right, and_from, and_parts, cond-true, cases_lt, false_from_ne_true, le-leb, lt-leb, leb-true, ltb-true}
 use Rattle.elf_loader.specs.declared.header.ProgramHeader.{ProgramHeader}
 use Rattle.elf_loader.specs.Fields.{e_phnum, program_header}
-use Rattle.elf_loader.specs.Segments.{any_below, is_segment, first_page, last_page, touches, is_touched, end_page, IsNext, lesser}
+use Rattle.elf_loader.specs.Segments.{any_below, is_segment, first_page, last_page, touches, is_touched, end_page}
+use Rattle.elf_loader.specs.Steps.{IsNext, lesser}
 use Rattle.elf_loader.proofs.Below.{any_below-some, any_below-more, max_below-at}
 
 module _ (h : ProgramHeader) (page : ℕ) where

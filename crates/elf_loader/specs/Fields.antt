@@ -19,6 +19,7 @@ class file = slice_index file 4
 abbrev pub byte_order : List ℕ → ℕ
 byte_order file = slice_index file 5
 
+-- The fields of the file header, under their names in the standard.
 abbrev pub e_type : List ℕ → ℕ
 e_type file = number_at file 16 2
 
@@ -37,6 +38,7 @@ e_phentsize file = number_at file 54 2
 abbrev pub e_phnum : List ℕ → ℕ
 e_phnum file = number_at file 56 2
 
+-- The fields of an entry of the program header table that begins at an offset.
 abbrev pub header_at : List ℕ → ℕ → ProgramHeader
 header_at file at = record {
   p_type = number_at file at 4;

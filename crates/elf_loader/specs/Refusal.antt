@@ -10,12 +10,13 @@ use Rattle.elf_loader.specs.declared.header.ProgramHeader.{ProgramHeader}
 use Rattle.elf_loader.specs.Fields.{magic, class, byte_order, e_type, e_machine, e_entry, e_phoff, e_phentsize, e_phnum, program_header}
 use Rattle.elf_loader.specs.Segments.{any_below, is_segment, memory_end, meets, is_touched, page_rights, end_page}
 
+-- The first refusal, or else the later one.
 abbrev pub or_later : Option ElfError → Option ElfError → Option ElfError
 or_later (Some error) later = Some error
 or_later None later = later
 
--- The file header: ELF-64, little-endian, executable (ET_EXEC), for RISC-V (EM_RISCV), with its table of
--- program headers in the file.
+-- The file header (System V ABI, "ELF Header"): ELF-64 (class 2), little-endian (order 1), executable (ET_EXEC,
+-- 2), for RISC-V (EM_RISCV, 243). Its program headers, if it has any, are entries of 56 bytes within the file.
 abbrev pub lacks_table : List ℕ → Bool
 lacks_table file =
     not (e_phnum file == 0) && (not (e_phentsize file == 56) || nat_lt (length file) (e_phoff file + 56 * e_phnum file))
@@ -31,20 +32,23 @@ file_refusal file =
     else (if lacks_table file then Some Table
     else None))))))
 
--- A program header. Its bytes in the file, if any, have to be there, and no more than its bytes in memory.
--- Its memory has to lie in pages 1 to 2 ^ 26 - 17, apart from that of the segments before it.
+-- A program header (System V ABI, "Program Header"). The bytes that a segment has in the file, if any, have to
+-- be there, and may be no more than its bytes in memory.
 unfoldable pub leaves_file : List ℕ → ProgramHeader → Bool
 leaves_file file h = nat_lt 0 h.p_filesz && nat_lt (length file) (h.p_offset + h.p_filesz)
 
+-- Its memory has to lie in pages 1 to 2 ^ 26 - 17.
 abbrev pub leaves_pages : ProgramHeader → Bool
 leaves_pages h = nat_lt h.p_vaddr 4096 || nat_lt ((2 ^ 26 - 16) * 4096) (memory_end h)
 
 unfoldable pub is_misplaced : List ℕ → ProgramHeader → Bool
 is_misplaced file h = is_segment h && (nat_lt h.p_memsz h.p_filesz || (leaves_file file h || leaves_pages h))
 
+-- It has to lie apart from the segments before it.
 unfoldable pub meets_earlier : List ℕ → ℕ → Bool
 meets_earlier file i = any_below (λ j. meets (program_header file i) (program_header file j)) i
 
+-- A header of type PT_INTERP (3) asks for an interpreter, which no program may.
 unfoldable pub header_refusal : List ℕ → ℕ → Option ElfError
 header_refusal file i =
     if (program_header file i).p_type == 3 then Some Interp
@@ -61,7 +65,7 @@ header_refusals file (suc n) = or_later (header_refusals file n) (header_refusal
 unfoldable pub pages : List ℕ → List ℕ
 pages file = filter (is_touched file) (range_with_len 0 (end_page file))
 
--- The program as a whole.
+-- The program as a whole has at most 1,008 pages. Its entry is a multiple of 4, in a page with the right to run.
 abbrev pub is_runnable : List ℕ → ℕ → Bool
 is_runnable file address = bit_at (page_rights file (address / 4096)) 2 == 1
 
@@ -71,5 +75,6 @@ program_refusal file =
     else (if not (e_entry file % 4 == 0 && is_runnable file (e_entry file)) then Some Entry
     else None)
 
+-- The file header comes first, then the program headers, then the program.
 abbrev pub refusal : List ℕ → Option ElfError
 refusal file = or_later (file_refusal file) (or_later (header_refusals file (e_phnum file)) (program_refusal file))

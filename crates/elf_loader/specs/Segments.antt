@@ -1,8 +1,7 @@
--- Segments: the parts of memory that the program headers of type PT_LOAD ask for.
-use Rattle.std.specs.Prelude.{◌≡◌, ◌<◌, ◌≤◌, true, ℕ, zero, suc, ◌+◌, ◌-◌, ◌*◌, ◌/◌, ◌^◌, ◌==◌, nat_lt, nat_le, max, min, Bool, false, ◌&&◌, ◌||◌, if◌then◌else◌, List, length, slice_index, bit_or}
+-- Segments: the parts of memory that the program headers of type PT_LOAD ask for (System V ABI, "Program
+-- Loading"), and the pages of 4,096 bytes that they touch.
+use Rattle.std.specs.Prelude.{ℕ, zero, suc, ◌+◌, ◌-◌, ◌*◌, ◌/◌, ◌==◌, nat_lt, nat_le, max, Bool, false, ◌&&◌, ◌||◌, if◌then◌else◌, List, slice_index, bit_or}
 use Rattle.std.specs.Int.{bit_at}
-use Rattle.std.specs.declared.option.Option.{Option}
-use Rattle.std.specs.declared.option.Option.TheVariants.{None, Some}
 use Rattle.elf_loader.specs.declared.header.ProgramHeader.{ProgramHeader}
 use Rattle.elf_loader.specs.Fields.{e_phnum, program_header}
 
@@ -29,6 +28,7 @@ is_segment h = h.p_type == 1 && nat_lt 0 h.p_memsz
 abbrev pub memory_end : ProgramHeader → ℕ
 memory_end h = h.p_vaddr + h.p_memsz
 
+-- The address is one of the segment's.
 unfoldable pub covers : ProgramHeader → ℕ → Bool
 covers h address = is_segment h && (nat_le h.p_vaddr address && nat_lt address (memory_end h))
 
@@ -40,17 +40,6 @@ meets h other = is_segment h && (is_segment other && (nat_lt h.p_vaddr (memory_e
 unfoldable pub segment_byte : List ℕ → ProgramHeader → ℕ → ℕ
 segment_byte file h address =
     if nat_lt (address - h.p_vaddr) h.p_filesz then slice_index file (h.p_offset + (address - h.p_vaddr)) else 0
-
--- The address holds a byte of the file.
-abbrev pub holds_file_byte : ProgramHeader → ℕ → Bool
-holds_file_byte h address = nat_le h.p_vaddr address && nat_lt address (h.p_vaddr + h.p_filesz)
-
--- The segment has its place in the file and in the pages of a process.
-pub record IsPlaced (file : List ℕ) (h : ProgramHeader) : Type 0 where
-  pub fits : h.p_filesz ≤ h.p_memsz
-  pub in_file : 0 < h.p_filesz → h.p_offset + h.p_filesz ≤ length file
-  pub above : 4096 ≤ h.p_vaddr
-  pub below : memory_end h ≤ (2 ^ 26 - 16) * 4096
 
 -- Pages
 
@@ -91,18 +80,6 @@ byte_below file address (suc n) =
     then segment_byte file (program_header file n) address
     else byte_below file address n
 
+-- The byte at an address.
 abbrev pub byte_of : List ℕ → ℕ → ℕ
 byte_of file address = byte_below file address (e_phnum file)
-
--- The least page from one on that passes the test, if there is one.
-abbrev pub IsNext : (ℕ → Bool) → ℕ → Option ℕ → Type 0
-IsNext test from None = (page : ℕ) → from ≤ page → test page ≡ false
-IsNext test from (Some next) = (from ≤ next) × (test next ≡ true) × ((page : ℕ) → from ≤ page → page < next → test page ≡ false)
-
-abbrev pub lesser : Option ℕ → ℕ → ℕ
-lesser None page = page
-lesser (Some least) page = min least page
-
--- The page is touched, and has these rights.
-unfoldable pub has_rights : List ℕ → ℕ → ℕ → Bool
-has_rights file rights page = is_touched file page && page_rights file page == rights

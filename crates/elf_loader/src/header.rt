@@ -1,6 +1,7 @@
 ghost use Rattle.std.specs.Prelude.{◌≡◌, ℕ, ◌+◌, ◌-◌, ◌^◌, ◌<◌, ◌≤◌, true, if◌then◌else◌, length, slice_index};
 ghost use Rattle.elf_loader.specs.Fields.{number_at, header_at};
-ghost use Rattle.elf_loader.specs.Segments.{IsPlaced, holds_file_byte, is_segment, memory_end, meets, first_page, last_page, touches, segment_rights};
+ghost use Rattle.elf_loader.specs.Segments.{is_segment, memory_end, meets, first_page, last_page, touches, segment_rights};
+ghost use Rattle.elf_loader.specs.Steps.{IsPlaced, holds_file_byte};
 ghost use Rattle.elf_loader.specs.Refusal.{is_misplaced, leaves_file};
 
 const PT_LOAD: u32 = 1;

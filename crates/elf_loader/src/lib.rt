@@ -1,7 +1,8 @@
 //! Executable files of ELF-64 for RISC-V, as runs of pages of memory.
 #![tactic(auto)]
 
-ghost use Rattle.std.specs.Prelude.{◌≡◌, IfOk};
+ghost use Rattle.std.specs.Prelude.{◌≡◌, IfOk, None, OnOk};
+ghost use Rattle.elf_loader.specs.Refusal.{refusal};
 ghost use Rattle.elf_loader.specs.Image.{FitsProcess, IsImage, Tells, loaded};
 
 use crate::file::ElfFile;
@@ -114,9 +115,11 @@ impl From<AllocError> for LoadError {
     }
 }
 
-/// The program of an ELF file, or the first refusal that fits.
+/// The program of an ELF file: its runs of pages are as long as can be, rise, and hold the bytes and the rights
+/// of the segments. A file that isn't one gives the first refusal that fits, in the order of `ElfError`.
 pub fn load(alloc: Global, bytes: &[u8]) -> Result<Program, LoadError>
     ensures exact { Tells result (loaded bytes.now) }
+    ensures accepted { OnOk result (refusal bytes.now ≡ None) }
     ensures image { IfOk result (IsImage bytes.now) }
     ensures fits { IfOk result FitsProcess }
 {

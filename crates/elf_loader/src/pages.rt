@@ -1,5 +1,6 @@
 ghost use Rattle.std.specs.Prelude.{◌≡◌, ◌+◌, ◌^◌, ◌<◌, ◌≤◌, ℕ, IfSome, None, Some, true, false, nat_lt, length, MatchResult};
-ghost use Rattle.elf_loader.specs.Segments.{is_touched, page_rights, end_page, has_rights, IsNext, lesser};
+ghost use Rattle.elf_loader.specs.Segments.{is_touched, page_rights, end_page};
+ghost use Rattle.elf_loader.specs.Steps.{has_rights, IsNext, lesser};
 ghost use Rattle.elf_loader.specs.Refusal.{pages, is_runnable, program_refusal};
 
 use crate::ElfError;

@@ -1,8 +1,8 @@
 -- Rows of calls that make or end an object.
-use Rattle.std.specs.Prelude.{◌≡◌, ℕ, nat_le, Bool, true, false, not, ◌==◌, is_some, [], ◌∷◌, ◌++◌, map, filter, Result, Ok, Err, IfOk}
+use Rattle.std.specs.Prelude.{◌≡◌, ℕ, ◌≤◌, nat_le, Bool, true, false, not, ◌==◌, is_some, [], ◌∷◌, ◌++◌, map, filter, Result, Ok, Err, IfOk, OnErr}
 use Rattle.std.specs.FinMap.{empty, insert, remove}
 use Rattle.std.specs.declared.option.Option.TheVariants.{None, Some}
-use Rattle.std.proofs.Common.{refl, sym, ap, ◌∙◌}
+use Rattle.std.proofs.Common.{refl, sym, ap, subst, ◌∙◌}
 use Rattle.std.proofs.lemmas.Bool.{cond-false}
 use Rattle.std.specs.declared.option.Option.{Option}
 use Rattle.abi_calls.specs.Threads.{thread_created}
@@ -17,10 +17,14 @@ use Rattle.abi_calls.specs.Processes.{closed}
 use Rattle.abi_calls.proofs.NumberMaps.{kept_but_one}
 use Rattle.abi_calls.specs.World.{World, Contents, with_objects}
 use Rattle.abi_calls.specs.Abi.{answer}
-use Rattle.abi_calls.specs.Sound.{IsSound}
+use Rattle.abi_calls.specs.Sound.{IsSound, is_some_thread}
 use Rattle.abi_calls.proofs.Facts.{fresh_number}
+use Rattle.abi_calls.proofs.Sounds.{sound_abi}
+use Rattle.abi_calls.proofs.SoundChanges.{Fits, sound_set}
+use Rattle.abi_calls.specs.declared.call.StreamName.{StreamName}
+use Rattle.abi_calls.specs.declared.reply.Reply.{Reply}
 use Rattle.host_objects.specs.Handles.{Adds}
-use Rattle.host_objects.specs.Objects.{world, Row}
+use Rattle.host_objects.specs.Objects.{world, Row, Serves}
 
 -- A number that is added is fresh.
 pub fresh_added : (o : Objects) (live' : Live) (x : Object) (h : ℕ) → IsSound o → Adds o.live x live' h → IsFresh o h
@@ -93,3 +97,27 @@ closed_row o o' h is none e = record {
     row = closed_answer (world o x) h (object_at o h) is ∙ ap {A = Objects} (λ q. (Done, world q x)) (ended_objects o o' h none e);
   };
 }
+
+-- ---- soundness
+-- A row leaves sound objects, since it does so whatever the contents are.
+pub row_sound : (o o' : Objects) (call : Call) (reply : Reply) → IsSound o → Row o call reply o' → IsSound o'
+row_sound o o' call reply sound row =
+    let none : Contents = record { files = empty; input = []; output = []; errors = [] } in
+    sound_abi (world o none) (world o' none) call reply sound (row.abi none)
+
+pub served_sound : (o o' : Objects) (call : Call) (reply : Option Reply) → IsSound o → Serves o call reply o' → IsSound o'
+served_sound o o' call None sound passed = subst IsSound (sym passed.same) sound
+served_sound o o' call (Some reply) sound row = row_sound o o' call reply sound row
+
+-- A stream fits in anywhere.
+stream_fits : (o : Objects) (h : ℕ) (name : StreamName) → IsSound o → 1 ≤ h → object_at o h ≡ None → Fits o h (Stream name)
+stream_fits o h name sound positive free = record {
+  positive = positive;
+  thread = λ is. absurd (let none = ap is_some_thread free in cc);
+  residents = λ t context at. absurd (let runs = sound.homes t h context at in let none = ap (λ y. is_some (running y)) free in cc);
+  home = λ p context is. absurd (cc);
+}
+
+pub stream_sound : {E : Type 0} (o : Objects) (live' : Live) (name : StreamName) (r : Result ℕ E) → IsSound o → IfOk r (Adds o.live (Stream name) live') → OnErr r (live' ≡ o.live) → IsSound (record o { live = live' })
+stream_sound o live' name (Ok h) sound adds same = subst {A = Live} (λ m. IsSound (record o { live = m })) (sym adds.now) (sound_set o h (Stream name) sound (stream_fits o h name sound adds.positive adds.free))
+stream_sound o live' name (Err e) sound adds same = subst {A = Live} (λ m. IsSound (record o { live = m })) (sym same) sound

@@ -10,10 +10,12 @@ use bas_edge::Memory;
 impl<N: Numbers + Drop> Objects<N> {
     /// Answers a call from the objects alone; `None` for the calls that reach outside, which are StreamOpen,
     /// StreamRead, StreamWrite and StreamLength. After an `Err` all is as before.
+    #[tactic(auto, using(crate::proofs::Rows::row_sound))]
     pub fn call(&mut self, call: &Call) -> Result<Option<Reply>, Memory>
         requires { IsSound (objects_of self.old) }
         ensures row { IfOk result (λ reply. Serves (objects_of self.old) call.now reply (objects_of self.new)) }
         ensures same { OnErr result (objects_of self.new ≡ objects_of self.old) }
+        ensures sound { IsSound (objects_of self.new) }
     {
         match call {
             Call::MemoryAllocate {

@@ -15,7 +15,7 @@ use std::marker::Model;
 
 /// Values under numbers that are given when a value is added and taken back when it goes.
 #[derive(Drop)]
-pub struct Handles<N: Numbers, V> {
+pub(crate) struct Handles<N: Numbers, V> {
     numbers: N,
     table: Table<V>,
 }
@@ -37,7 +37,7 @@ impl<N: Numbers, V> Model for Handles<N, V> {
 
 impl<N: Numbers + Drop, V: Drop> Handles<N, V> {
     /// No value, over numbers of which none is live.
-    pub fn new(alloc: Global, numbers: N) -> Handles<N, V>
+    pub(crate) fn new(alloc: Global, numbers: N) -> Handles<N, V>
         requires { IsUnused (N.is_live numbers) }
         ensures { result ≡ map.empty }
     {
@@ -49,14 +49,14 @@ impl<N: Numbers + Drop, V: Drop> Handles<N, V> {
 
     /// The value under a number.
     #[inline]
-    pub fn get(&self, number: u64) -> Option<&V>
+    pub(crate) fn get(&self, number: u64) -> Option<&V>
         ensures { option_copied result ≡ map.get self.now number }
     {
         self.table.get(number)
     }
 
     /// Adds a value under a new number. After an `Err` the value is dropped.
-    pub fn add(&mut self, value: V) -> Result<u64, Memory>
+    pub(crate) fn add(&mut self, value: V) -> Result<u64, Memory>
         ensures added { IfOk result (Adds self.old value self.new) }
         ensures same { OnErr result (self.new ≡ self.old) }
     {
@@ -71,7 +71,7 @@ impl<N: Numbers + Drop, V: Drop> Handles<N, V> {
     }
 
     /// Puts a value in the place of the one under a number, which is given back. Takes no memory.
-    pub fn replace(&mut self, number: u64, value: V) -> V
+    pub(crate) fn replace(&mut self, number: u64, value: V) -> V
         requires { IsSome (map.get self.old number) }
         ensures before { map.get self.old number ≡ Some result }
         ensures after { self.new ≡ map.insert self.old number value }
@@ -80,7 +80,7 @@ impl<N: Numbers + Drop, V: Drop> Handles<N, V> {
     }
 
     /// Puts a value in the place of the one under a number. Takes no memory.
-    pub fn set(&mut self, number: u64, value: V)
+    pub(crate) fn set(&mut self, number: u64, value: V)
         requires { IsSome (map.get self.old number) }
         ensures { self.new ≡ map.insert self.old number value }
     {
@@ -88,7 +88,7 @@ impl<N: Numbers + Drop, V: Drop> Handles<N, V> {
     }
 
     /// Ends a number with the value under it.
-    pub fn end(&mut self, number: u64)
+    pub(crate) fn end(&mut self, number: u64)
         ensures { self.new ≡ map.remove self.old number }
     {
         self.table.remove(number);
@@ -96,7 +96,7 @@ impl<N: Numbers + Drop, V: Drop> Handles<N, V> {
     }
 
     /// The numbers, by rising number.
-    pub fn numbers(&self) -> Keys<'_, u64, V>
+    pub(crate) fn numbers(&self) -> Keys<'_, u64, V>
         ensures runs { ShowsInOrder (deref {X = ℕ}) }
         ensures has { (q : ℕ) → is_some (map.get self.now q) ≡ list_any (λ k. k == q) result }
     {
@@ -104,7 +104,7 @@ impl<N: Numbers + Drop, V: Drop> Handles<N, V> {
     }
 
     /// The values, by rising number.
-    pub fn values(&self) -> Values<'_, u64, V>
+    pub(crate) fn values(&self) -> Values<'_, u64, V>
         ensures rest { result ≡ map.values self.now }
         ensures runs { ShowsInOrder (deref {X = V}) }
         ensures fits { length result < 2 ^ 63 }
@@ -113,7 +113,7 @@ impl<N: Numbers + Drop, V: Drop> Handles<N, V> {
     }
 
     /// Whether there is no value.
-    pub fn is_empty(&self) -> bool
+    pub(crate) fn is_empty(&self) -> bool
         ensures { IsTrue result ↔ (self.now ≡ map.empty) }
     {
         self.table.is_empty()

@@ -17,6 +17,8 @@ mod threads;
 mod turns;
 
 pub use counting::Counting;
-pub use handles::Handles;
 pub use numbers::Numbers;
 pub use objects::Objects;
+
+#[cfg(test)]
+mod tests;

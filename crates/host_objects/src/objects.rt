@@ -1,8 +1,10 @@
-ghost use Rattle.std.specs.Prelude.{◌≡◌, ℕ, IfOk, OnErr};
+ghost use Rattle.std.specs.Prelude.{◌≡◌, ◌↔◌, ℕ, IsTrue, IfOk, OnErr};
 ghost use Rattle.std.specs.Option.{option_copied, option_map};
+ghost use Rattle.std.specs.FinMap.{empty};
 ghost use Rattle.abi_calls.specs.Objects.{running, object_at, number_of};
 ghost use Rattle.abi_calls.specs.Objects as kinds;
 ghost use Rattle.abi_calls.specs.Processes as processes;
+ghost use Rattle.abi_calls.specs.Sound.{IsSound};
 ghost use Rattle.host_objects.specs.Numbers.{IsUnused};
 ghost use Rattle.host_objects.specs.Objects.{objects_of, untouched};
 
@@ -40,7 +42,8 @@ impl<N: Numbers + Drop> Objects<N> {
     /// memory.
     pub fn new(alloc: Global, numbers: N) -> Objects<N>
         requires { IsUnused (N.is_live numbers) }
-        ensures { objects_of result ≡ untouched }
+        ensures untouched { objects_of result ≡ untouched }
+        ensures sound { IsSound (objects_of result) }
     {
         Objects {
             handles: Handles::new(alloc, numbers),
@@ -60,6 +63,27 @@ impl<N: Numbers + Drop> Objects<N> {
             },
             alloc,
         }
+    }
+
+    /// Whether there is no object.
+    pub fn is_empty(&self) -> bool
+        ensures { IsTrue result ↔ ((objects_of self.now).live ≡ empty) }
+    {
+        self.handles.is_empty()
+    }
+
+    /// How many turns were made, and how many words of the tapes were used.
+    pub fn positions(&self) -> Positions
+        ensures { result ≡ (objects_of self.now).positions }
+    {
+        self.positions
+    }
+
+    /// The current thread.
+    pub fn current(&self) -> Option<u64>
+        ensures { result ≡ (objects_of self.now).current }
+    {
+        self.schedule.current()
     }
 
     /// The memory of a process that hasn't exited.

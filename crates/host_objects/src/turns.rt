@@ -25,7 +25,8 @@ impl<N: Numbers + Drop> Objects<N> {
     pub fn turn(&mut self) -> Turned
         requires sound { IsSound (objects_of self.old) }
         requires idle { (objects_of self.old).current ≡ None }
-        ensures { turned (objects_of self.old) ≡ (result, objects_of self.new) }
+        ensures turned { turned (objects_of self.old) ≡ (result, objects_of self.new) }
+        ensures sound { IsSound (objects_of self.new) }
     {
         let word = self.word();
         let Some(thread) = self.schedule.pick(word) else {

@@ -60,7 +60,7 @@ length-block_at sp args =
 pub length-argument_block : (args : List (List ℕ)) → length (argument_block args) ≡ block_size args
 length-argument_block args = length-block_at (stack_pointer args) args
 
-texts_small : (args : List (List ℕ)) → list_all (λ arg. nat_le (length arg) 80) args ≡ true → sum_by (λ arg. length arg + 1) args ≤ 81 * length args
+pub texts_small : (args : List (List ℕ)) → list_all (λ arg. nat_le (length arg) 80) args ≡ true → sum_by (λ arg. length arg + 1) args ≤ 81 * length args
 texts_small [] small = omega arith
 texts_small (arg ∷ args) small =
     let parts = and_parts (nat_le (length arg) 80) (list_all (λ arg. nat_le (length arg) 80) args) small in

@@ -7,3 +7,4 @@ pub mod Quiet
 pub mod Starts
 pub mod Fronts
 pub mod Halting
+pub mod Progress

@@ -1,3 +1,4 @@
 pub mod WhereTold
 pub mod Serves
 pub mod Halts
+pub mod Errors

@@ -1,7 +1,7 @@
-use Rattle.std.proofs.Common.{◌*◌, Ok, ap, sym, subst, ◌∙◌, arith}
-use Rattle.elf_loader.specs.Refusal.{file_refusal}
+use Rattle.std.proofs.Common.{◌≡◌, ◌*◌, None, Ok, ap, sym, subst, ◌∙◌, arith}
+use Rattle.elf_loader.specs.Refusal.{file_refusal, refusal}
 use Rattle.elf_loader.specs.Image.{loaded, IsImage, FitsProcess}
-use Rattle.elf_loader.proofs.Refusals.{end_page-small}
+use Rattle.elf_loader.proofs.Refusals.{end_page-small, refusal-none}
 use Rattle.elf_loader.proofs.ImageLaws.{loaded-accepted, program_of-made, IsImage-program_of, FitsProcess-program_of}
 use Rattle.elf_loader.proofs.load.Goals as goal
 
@@ -30,3 +30,9 @@ returns-clause-fits c =
     let file = c.in_ok-file.file.bytes.now in
     let made = program_of-made file c.entry.result c.end_page-end.result c.in_ok-runs.runs c.entry.ensures c.in_ok-runs.ensures c.end_page-end.ensures in
     subst (λ program. FitsProcess program) made (FitsProcess-program_of file c.in_ok-check_headers.ensures c.in_ok-check_program.ensures)
+
+pub returns-clause-accepted : goal.returns-clause-accepted
+returns-clause-accepted c =
+    let opened = c.in_ok-file.ensures in
+    subst (λ bytes. refusal bytes ≡ None) opened.0
+    (refusal-none c.in_ok-file.file.bytes.now (ap file_refusal opened.0 ∙ opened.1) c.in_ok-check_headers.ensures c.in_ok-check_program.ensures)

@@ -1,7 +1,8 @@
 use Rattle.std.proofs.Common.{◌≡◌, ◌+◌, ◌-◌, Some, None, filter, length, sym, ap, arith}
 use Rattle.std.specs.List.{range_with_len}
 use Rattle.std.proofs.lemmas.Bool.{lt-ltb, le-ltb}
-use Rattle.elf_loader.specs.Segments.{is_touched, end_page, IsNext}
+use Rattle.elf_loader.specs.Segments.{is_touched, end_page}
+use Rattle.elf_loader.specs.Steps.{IsNext}
 use Rattle.elf_loader.specs.Refusal.{pages}
 use Rattle.elf_loader.proofs.PageLists.{filter-range_none, filter-range_next}
 use Rattle.elf_loader.proofs.TouchedPages.{is_touched-below_end}

@@ -1,6 +1,7 @@
 use Rattle.std.proofs.Common.{◌≡◌, max, true, subst, sym, ap, ◌∙◌, arith}
 use Rattle.elf_loader.specs.Fields.{e_phnum, program_header}
-use Rattle.elf_loader.specs.Segments.{any_below, is_segment, first_page, last_page, touches, is_touched, IsNext, lesser}
+use Rattle.elf_loader.specs.Segments.{any_below, is_segment, first_page, last_page, touches, is_touched}
+use Rattle.elf_loader.specs.Steps.{IsNext, lesser}
 use Rattle.elf_loader.proofs.Below.{any_below-none}
 use Rattle.elf_loader.proofs.TouchedPages.{IsNext-header_keep, IsNext-header_take, touches-no_segment, touches-above, lesser-le}
 use Rattle.elf_loader.proofs.file.ElfFile.next_page.Goals as goal

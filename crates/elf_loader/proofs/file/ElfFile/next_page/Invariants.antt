@@ -1,6 +1,7 @@
 use Rattle.std.proofs.Common.{◌<◌, ◌^◌, IfSome}
 use Rattle.elf_loader.specs.Fields.{program_header}
-use Rattle.elf_loader.specs.Segments.{any_below, touches, IsNext}
+use Rattle.elf_loader.specs.Segments.{any_below, touches}
+use Rattle.elf_loader.specs.Steps.{IsNext}
 use Rattle.elf_loader.proofs.file.ElfFile.next_page.Given as goal
 
 abbrev pub invariant-loop-i : goal.invariant-loop-i

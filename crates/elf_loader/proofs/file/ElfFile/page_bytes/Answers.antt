@@ -2,7 +2,8 @@ use Rattle.std.proofs.Common.{◌≡◌, ℕ, ◌+◌, ◌*◌, true, false, map
 use Rattle.std.specs.List.{range_with_len}
 use Rattle.std.proofs.lemmas.List.{with_items_is}
 use Rattle.elf_loader.specs.Fields.{e_phnum, program_header}
-use Rattle.elf_loader.specs.Segments.{is_segment, byte_below, IsPlaced}
+use Rattle.elf_loader.specs.Segments.{is_segment, byte_below}
+use Rattle.elf_loader.specs.Steps.{IsPlaced}
 use Rattle.elf_loader.specs.Image.{page_bytes}
 use Rattle.elf_loader.proofs.Refusals.{header_refusals-each, IsPlaced-from_none, meets-from_none}
 use Rattle.elf_loader.proofs.MemoryBytes.{bytes-copied, byte_below-no_segment, map-same, replicate-is_map}

@@ -1,6 +1,7 @@
 use Rattle.std.proofs.Common.{◌≡◌, ◌<◌, true, false, sym, subst, arith, rules, ⊎_elim}
 use Rattle.std.proofs.lemmas.Bool.{and_left, and_right, and_from, eq-eqb, ne_eqb}
-use Rattle.elf_loader.specs.Segments.{is_touched, page_rights, has_rights}
+use Rattle.elf_loader.specs.Segments.{is_touched, page_rights}
+use Rattle.elf_loader.specs.Steps.{has_rights}
 use Rattle.elf_loader.proofs.Below.{at_last}
 use Rattle.elf_loader.proofs.TouchedPages.{is_touched-end}
 use Rattle.elf_loader.proofs.file.ElfFile.run_end.Goals as goal

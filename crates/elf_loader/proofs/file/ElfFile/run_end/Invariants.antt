@@ -1,5 +1,5 @@
 use Rattle.std.proofs.Common.{◌≡◌, ℕ, ◌<◌, true}
-use Rattle.elf_loader.specs.Segments.{has_rights}
+use Rattle.elf_loader.specs.Steps.{has_rights}
 use Rattle.elf_loader.proofs.file.ElfFile.run_end.Given as goal
 
 abbrev pub invariant-loop-page : goal.invariant-loop-page

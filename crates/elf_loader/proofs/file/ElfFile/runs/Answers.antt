@@ -1,7 +1,8 @@
 use Rattle.std.proofs.Common.{◌≡◌, ◌-◌, ◌≤◌, ◌<◌, Some, None, ◌∷◌, [], ◌++◌, filter, List, append-nil, append_assoc, sym, ap, ◌∙◌, arith}
 use Rattle.std.specs.List.{range_with_len}
 use Rattle.elf_loader.specs.declared.Run.{Run}
-use Rattle.elf_loader.specs.Segments.{is_touched, end_page, IsNext}
+use Rattle.elf_loader.specs.Segments.{is_touched, end_page}
+use Rattle.elf_loader.specs.Steps.{IsNext}
 use Rattle.elf_loader.specs.Refusal.{pages}
 use Rattle.elf_loader.specs.Image.{page_bytes, runs_of}
 use Rattle.elf_loader.proofs.PageLists.{filter-range_none}

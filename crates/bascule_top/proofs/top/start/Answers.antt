@@ -1,0 +1,54 @@
+use Rattle.std.proofs.Common.{rules, ◌≡◌, refl, ap}
+use Rattle.std.specs.declared.option.Option.TheVariants.{None, Some}
+use Rattle.mono_model.specs.Turns as mono
+use Rattle.libos_state.specs.Fits.{exit_code}
+use Rattle.libos_state.specs.declared.state.Boot.TheVariants as boots
+use Rattle.turn_engine.proofs.Steps.{settled_up}
+use Rattle.bascule_top.specs.Runs.{end_by}
+use Rattle.bascule_top.proofs.Saying.{start_fits, start_means, run_says, no_program_says, bad_says, bound_turns}
+use Rattle.bascule_top.proofs.top.start.Goals as goal
+
+pub boot-requires-2 : goal.boot-requires-2
+boot-requires-2 g c = record {
+  fits = start_fits c.args.name.now c.in_ok-os.os (g.H.Host.objects c.args.host.now) (g.H.Host.answered_count c.args.host.now) c.requires.named c.requires.fresh (g.met.H.Host.sound c.args.host.now) (search rules);
+}
+
+pub returns-in-NoProgram-clause-says : goal.returns-in-NoProgram-clause-says
+returns-in-NoProgram-clause-says g c =
+    let means = start_means c.args.name.now c.in_ok-os.os c.boot-2.new.self.os (g.H.Host.objects c.args.host.now) (g.H.Host.objects c.boot-2.new.host) (g.H.Host.told c.args.host.now) (g.H.Host.told c.boot-2.new.host) (g.H.Host.answered_count c.args.host.now)
+    c.requires.named c.requires.fresh (g.met.H.Host.sound c.args.host.now) (search rules) c.in_ok-boot.ensures.serves in
+    let no : c.boot-2.new.self.os.boot ≡ boots.NoProgram = search rules in
+    no_program_says c.in_ok-no_program-in-NoProgram.field-0 c.args.name.now c.boot-2.new.self.os (g.H.Host.objects c.boot-2.new.host) (g.H.Host.told c.args.host.now) (g.H.Host.told c.boot-2.new.host)
+    means c.in_ok-boot.ensures.settled no (search rules)
+
+pub returns-in-BadProgram-clause-says : goal.returns-in-BadProgram-clause-says
+returns-in-BadProgram-clause-says g c =
+    let means = start_means c.args.name.now c.in_ok-os.os c.boot-2.new.self.os (g.H.Host.objects c.args.host.now) (g.H.Host.objects c.boot-2.new.host) (g.H.Host.told c.args.host.now) (g.H.Host.told c.boot-2.new.host) (g.H.Host.answered_count c.args.host.now)
+    c.requires.named c.requires.fresh (g.met.H.Host.sound c.args.host.now) (search rules) c.in_ok-boot.ensures.serves in
+    let bad : c.boot-2.new.self.os.boot ≡ boots.BadProgram c.in-BadProgram.cause = search rules in
+    bad_says c.args.name.now c.boot-2.new.self.os (g.H.Host.objects c.boot-2.new.host) (g.H.Host.told c.args.host.now) (g.H.Host.told c.boot-2.new.host) c.in-BadProgram.cause
+    means c.in_ok-boot.ensures.settled bad
+
+pub returns-in-Some-clause-says : goal.returns-in-Some-clause-says
+returns-in-Some-clause-says g c =
+    let means = start_means c.args.name.now c.in_ok-os.os c.boot-2.new.self.os (g.H.Host.objects c.args.host.now) (g.H.Host.objects c.boot-2.new.host) (g.H.Host.told c.args.host.now) (g.H.Host.told c.boot-2.new.host) (g.H.Host.answered_count c.args.host.now)
+    c.requires.named c.requires.fresh (g.met.H.Host.sound c.args.host.now) (search rules) c.in_ok-boot.ensures.serves in
+    let up : c.boot-2.new.self.os.boot ≡ boots.Up = search rules in
+    let code : exit_code c.run.new.machine.os ≡ Some c.in-Some.code = search rules in
+    run_says c.args.name.now (mono.Exited c.in-Some.code) c.boot-2.new.self.os c.run.new.machine.os (g.H.Host.objects c.boot-2.new.host) (g.H.Host.objects c.run.new.host)
+    (g.H.Host.told c.args.host.now) (g.H.Host.told c.boot-2.new.host) (g.H.Host.told c.run.new.host)
+    means (settled_up c.boot-2.new.self.os (g.H.Host.objects c.boot-2.new.host) c.in_ok-boot.ensures.serves.fits c.in_ok-boot.ensures.settled up) c.in_ok-code-in-Up.ensures.ends (ap end_by code)
+
+pub returns-clause-says : goal.returns-clause-says
+returns-clause-says g c =
+    let means = start_means c.args.name.now c.in_ok-os.os c.boot-2.new.self.os (g.H.Host.objects c.args.host.now) (g.H.Host.objects c.boot-2.new.host) (g.H.Host.told c.args.host.now) (g.H.Host.told c.boot-2.new.host) (g.H.Host.answered_count c.args.host.now)
+    c.requires.named c.requires.fresh (g.met.H.Host.sound c.args.host.now) (search rules) c.in_ok-boot.ensures.serves in
+    let up : c.boot-2.new.self.os.boot ≡ boots.Up = search rules in
+    let code : exit_code c.run.new.machine.os ≡ None = search rules in
+    let ends = c.in_ok-code-in-Up.ensures.ends in (
+      refl,
+      bound_turns (g.H.Host.objects c.args.host.now) (g.H.Host.objects c.boot-2.new.host) (g.H.Host.objects c.run.new.host) (g.H.Host.answered_count c.args.host.now) c.requires.fresh c.in_ok-boot.ensures.serves.turns (ends.bound code),
+      run_says c.args.name.now mono.Bound c.boot-2.new.self.os c.run.new.machine.os (g.H.Host.objects c.boot-2.new.host) (g.H.Host.objects c.run.new.host)
+          (g.H.Host.told c.args.host.now) (g.H.Host.told c.boot-2.new.host) (g.H.Host.told c.run.new.host)
+          means (settled_up c.boot-2.new.self.os (g.H.Host.objects c.boot-2.new.host) c.in_ok-boot.ensures.serves.fits c.in_ok-boot.ensures.settled up) ends (ap end_by code),
+    )

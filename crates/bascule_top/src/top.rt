@@ -1,0 +1,98 @@
+ghost use Rattle.std.specs.Prelude.{◌≡◌, ◌≢◌, None, Some, true, IfOk, MatchOption};
+ghost use Rattle.bas_edge.specs.Faults.{HasCause, Rose};
+ghost use Rattle.abi_calls.specs.Fresh.{IsFreshWorld};
+ghost use Rattle.bascule_top.specs.Commands.{command_of, words_of, is_name, start_settings};
+ghost use Rattle.bascule_top.specs.declared.outcome.Outcome.TheVariants.{NoProgram};
+ghost use Rattle.bascule_top.specs.Outcomes.{Headline, Says, IsOfRun};
+
+use crate::outcome::Outcome;
+use crate::run::{TURNS, run};
+use abi_calls::{Host, Settings};
+use bas_edge::Memory;
+use bas_items::Items;
+use libos_calls::{boot, booted};
+use libos_state::Boot;
+use std::alloc::Global;
+use turn_engine::{EngineError, Machine};
+
+/// The most bytes of a name.
+const LONGEST_NAME: usize = 80;
+
+/// The program that a command starts; `None` where the words are no command.
+fn program_of_command(words: &[String]) -> Option<&[u8]>
+    ensures { MatchOption result (command_of (words_of words.now) ≡ None) (λ name. command_of (words_of words.now) ≡ Some name.now) }
+{
+    match words {
+        [word, name]
+            if word.as_bytes() == b"start".as_slice()
+                && !name.is_empty()
+                && name.len() <= LONGEST_NAME => { Some(name.as_bytes()) }
+        _ => None,
+    }
+}
+
+/// The settings of a start.
+fn settings_of_start(alloc: Global) -> Settings
+    ensures { result ≡ start_settings }
+{
+    Settings {
+        start: 0,
+        step: 1000,
+        salt: 0,
+        slice: 1000,
+        picks: Items::new(alloc),
+        randoms: Items::new(alloc),
+    }
+}
+
+/// There is no file of the name.
+fn no_program(alloc: Global, name: &[u8]) -> Result<Outcome, Memory>
+    ensures { IfOk result (λ outcome. outcome ≡ NoProgram name.now) }
+{
+    Ok(Outcome::NoProgram(Items::from_slice(alloc, name)?))
+}
+
+/// Starts a program, and makes its run.
+fn start<H: Host>(alloc: Global, name: &[u8], host: &mut H) -> Result<Outcome, EngineError>
+    requires fresh { IsFreshWorld (H.objects host.old) (H.answered_count host.old) }
+    requires named { is_name name.now ≡ true }
+    ensures says { IfOk result (λ outcome. Says outcome name.now (H.told host.old) (H.objects host.new) (H.told host.new)) }
+    ensures own { IfOk result IsOfRun }
+    ensures cause { HasCause EngineError.Failed (H.fault_count host.old) (H.fault_count host.new) result }
+{
+    let os = boot(alloc, name, settings_of_start(alloc))?;
+    let mut machine = Machine { os };
+    machine.boot(alloc, host)?;
+    match booted(&machine.os) {
+        Boot::Going => unreachable!(),
+        Boot::NoProgram => Ok(no_program(alloc, name)?),
+        Boot::BadProgram(cause) => Ok(Outcome::BadProgram(cause)),
+        Boot::Up => match run(alloc, &mut machine, host)? {
+            Some(code) => Ok(Outcome::Exited(code)),
+            None => Ok(Outcome::Bound(TURNS)),
+        },
+    }
+}
+
+/// Carries out the command that the words are, over a host that was not used.
+///
+/// The one command so far is `start NAME`: the program of this name, 1 to 80 bytes, runs with its name as its one
+/// argument, for at most 1,000,000 turns of at most 1,000 instructions each.
+///
+/// Where the host tells its contents, the outcome is that of the monolithic machine's run over them, its files, output
+/// and errors are those of the run's last state, and its world agrees with that state. `HostFault` comes only where
+/// the host's count of faults rose; `OutOfMemory` may come in place of any other outcome of a start.
+pub fn bascule<H: Host>(alloc: Global, words: &[String], host: &mut H) -> Outcome
+    requires fresh { IsFreshWorld (H.objects host.old) (H.answered_count host.old) }
+    ensures headline { Headline result (command_of (words_of words.now)) (H.objects host.old) (H.told host.old) (H.objects host.new) (H.told host.new) }
+    ensures fault { result ≡ Outcome.HostFault → Rose (H.fault_count host.old) (H.fault_count host.new) }
+{
+    let Some(name) = program_of_command(words) else {
+        return Outcome::BadWords;
+    };
+    match start(alloc, name, host) {
+        Ok(outcome) => outcome,
+        Err(EngineError::Failed) => Outcome::HostFault,
+        Err(EngineError::Memory) => Outcome::OutOfMemory,
+    }
+}

@@ -1,0 +1,66 @@
+ghost use Rattle.std.specs.Prelude.{◌≡◌, [], IfOk};
+ghost use Rattle.std.specs.Option.{option_copied};
+ghost use Rattle.libos_state.specs.Entered as spec;
+ghost use Rattle.libos_state.specs.Fits as fits;
+ghost use Rattle.libos_state.specs.Records.{process_named};
+
+use abi_calls::Settings;
+use bas_edge::Memory;
+use bas_items::Items;
+use libos_state::{Boot, Cont, Event, LibOs, ProcessNote, Stage};
+use rv_core::Context;
+use std::alloc::Global;
+
+/// The library OS that begins a run of a program without further arguments: its first service is the start.
+pub fn boot(alloc: Global, program: &[u8], settings: Settings) -> Result<LibOs, Memory>
+    ensures { IfOk result (λ os. os ≡ spec.booting program.now [] settings) }
+{
+    let mut names = Items::new(alloc);
+    names.push(Items::from_slice(alloc, program)?)?;
+    names.push(Items::from_slice(alloc, program)?)?;
+    let event = Event::Boot {
+        program: Items::from_slice(alloc, program)?,
+        args: Items::new(alloc),
+    };
+    let cont = Cont {
+        event,
+        stage: Stage::Configure,
+        next: Context { pc: 0, x: [0; 31] },
+        names,
+        bytes: Items::new(alloc),
+        handles: Items::new(alloc),
+        numbers: Items::new(alloc),
+    };
+    Ok(LibOs {
+        settings,
+        boot: Boot::Going,
+        next_id: 1,
+        processes: Items::new(alloc),
+        threads: Items::new(alloc),
+        descriptions: Items::new(alloc),
+        cont: Some(cont),
+    })
+}
+
+/// How far the start of the run is. Takes no memory.
+pub fn booted(os: &LibOs) -> Boot
+    ensures { result ≡ os.now.boot }
+{
+    os.boot
+}
+
+fn process_by_pid(processes: &[ProcessNote], pid: u64) -> Option<&ProcessNote>
+    ensures { option_copied result ≡ process_named pid processes.now }
+{
+    processes.iter().find(|note| note.pid == pid)
+}
+
+/// The exit code that the record of process 1 holds; `None` where it holds none. Takes no memory.
+pub fn exit_code(os: &LibOs) -> Option<u8>
+    ensures { result ≡ fits.exit_code os.now }
+{
+    match process_by_pid(os.processes.as_slice(), 1) {
+        Some(note) => note.code,
+        None => None,
+    }
+}

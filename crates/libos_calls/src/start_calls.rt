@@ -1,0 +1,229 @@
+ghost use Rattle.std.specs.Prelude.{◌≡◌, ◌^◌, ◌<◌, ◌≤◌, IfOk, length, drop, false, true, take, nat_le, ◌∷◌, replicate};
+ghost use Rattle.std.specs.List.{list_all};
+ghost use Rattle.mono_model.specs.Starting.{stack_pointer};
+ghost use Rattle.libos_state.specs.declared.state.LibOs.{LibOs};
+ghost use Rattle.libos_state.specs.Pending as spec;
+ghost use Rattle.libos_state.specs.Kept.{KeptAt};
+ghost use Rattle.libos_calls.specs.Families.{is_service, is_reading, is_filling};
+ghost use Rattle.mono_model.specs.Program.{page_bytes};
+
+use crate::block::{block, block_address};
+use crate::calls::PIECE;
+use crate::kept::{first_items, items_from, number_at};
+use crate::program::{bytes_of_pages, count_of_pages};
+use abi_calls::{Call, Positions, Settings, StreamName};
+use bas_edge::Memory;
+use bas_items::Items;
+use libos_state::{Cont, LibOs, Stage};
+use rv_core::Context;
+use std::alloc::{AllocError, Global};
+
+/// The address of a program's first instruction.
+const ENTRY: u64 = 0x10078;
+
+/// The first page of a program's run, and its address.
+const RUN_PAGE: u64 = 16;
+
+const RUN_ADDRESS: u64 = RUN_PAGE * 4096;
+
+/// The rights of a program's run: to read, write and run.
+const RUN_RIGHTS: u8 = 7;
+
+/// The right to read and the right to write.
+const READ_WRITE: u8 = 3;
+
+/// The stack's first page, and how many it has.
+const STACK_PAGE: u64 = (1 << 26) - 16;
+
+const STACK_PAGES: u64 = 16;
+
+const NO_POSITIONS: Positions = Positions {
+    turns: 0,
+    pick: 0,
+    random: 0,
+};
+
+/// A copy of the settings.
+fn copied_settings(alloc: Global, settings: &Settings) -> Result<Settings, AllocError>
+    ensures { IfOk result (λ copy. copy ≡ settings.now) }
+{
+    let picks = Items::from_slice(alloc, settings.picks.as_slice())?;
+    let randoms = Items::from_slice(alloc, settings.randoms.as_slice())?;
+    Ok(Settings {
+        start: settings.start,
+        step: settings.step,
+        salt: settings.salt,
+        slice: settings.slice,
+        picks,
+        randoms,
+    })
+}
+
+/// The end of the console that is opened next.
+fn console_name(opened: usize) -> StreamName
+    ensures { result ≡ spec.console_name opened }
+{
+    match opened {
+        0 => StreamName::ConIn,
+        1 => StreamName::ConOut,
+        _ => StreamName::ConErr,
+    }
+}
+
+/// The name of the program.
+fn program_name(cont: &Cont) -> &[u8]
+    ensures { result.now ≡ spec.program_name cont.now }
+{
+    match cont.names.as_slice().first() {
+        Some(name) => name.as_slice(),
+        None => &[],
+    }
+}
+
+/// The program's arguments.
+fn arguments(cont: &Cont) -> &[Items<u8>]
+    ensures { result.now ≡ spec.arguments cont.now }
+{
+    match cont.names.as_slice().split_first() {
+        Some((_, args)) => args,
+        None => &[],
+    }
+}
+
+/// The next bytes of the program's run, of which so many are written.
+fn run_piece(alloc: Global, file: &[u8], written: u64) -> Result<Items<u8>, AllocError>
+    requires headed { 120 ≤ length file.now }
+    requires small { length file.now < 2 ^ 32 }
+    ensures { IfOk result (λ piece. piece ≡ take 65536 (drop written (page_bytes file.now))) }
+{
+    let bytes = bytes_of_pages(alloc, file)?;
+    let rest = items_from(bytes.as_slice(), written as usize);
+    Items::from_slice(alloc, first_items(rest, PIECE as usize))
+}
+
+/// The registers that the program begins with.
+fn first_context(args: &[Items<u8>]) -> Context
+    requires few { length args.now ≤ 16 }
+    requires short { list_all (λ arg. nat_le (length arg) 80) args.now ≡ true }
+    ensures { result ≡ record { pc = 0x10078; x = 0 ∷ stack_pointer args.now ∷ replicate 29 0 } }
+{
+    let mut x = [0; 31];
+    x[1] = block_address(args);
+    Context { pc: ENTRY, x }
+}
+
+/// The call of a stage up to the program's loading.
+fn asked_reading(os: &LibOs, alloc: Global, cont: &Cont) -> Result<Call, Memory>
+    requires { is_reading cont.now.stage ≡ true }
+    ensures { IfOk result (λ call. call ≡ spec.asked os.now cont.now cont.now.stage) }
+{
+    let file = number_at(cont.handles.as_slice(), 3);
+    match cont.stage {
+        Stage::Configure => {
+            let settings = copied_settings(alloc, &os.settings)?;
+            Ok(Call::Configure {
+                settings,
+                positions: NO_POSITIONS,
+            })
+        }
+        Stage::OpenConsole => Ok(Call::StreamOpen {
+            name: console_name(cont.handles.len()),
+            create: false,
+            exclusive: false,
+        }),
+        Stage::OpenProgram => {
+            let name = Items::from_slice(alloc, program_name(cont))?;
+            Ok(Call::StreamOpen {
+                name: StreamName::File(name),
+                create: false,
+                exclusive: false,
+            })
+        }
+        Stage::ProgramLength => Ok(Call::StreamLength { stream: file }),
+        Stage::ReadProgram => {
+            let read = cont.bytes.len() as u64;
+            let length = number_at(cont.numbers.as_slice(), 0);
+            Ok(Call::StreamRead {
+                stream: file,
+                offset: read,
+                count: PIECE.min(length.saturating_sub(read)),
+            })
+        }
+        Stage::CloseProgram => Ok(Call::Close { handle: file }),
+        _ => unreachable!(),
+    }
+}
+
+/// The call of a stage that makes the process's memory.
+fn asked_filling(alloc: Global, process: u64, cont: &Cont) -> Result<Call, Memory>
+    requires kept { KeptAt cont.now cont.now.stage }
+    requires stage { is_filling cont.now.stage ≡ true }
+    requires process { process ≡ spec.file_or_child cont.now }
+    ensures { IfOk result (λ call. (os : LibOs) → call ≡ spec.asked os cont.now cont.now.stage) }
+{
+    match cont.stage {
+        Stage::AllocateRun => Ok(Call::MemoryAllocate {
+            process,
+            page: RUN_PAGE,
+            count: count_of_pages(cont.bytes.as_slice()),
+            rights: READ_WRITE,
+        }),
+        Stage::WriteRun => {
+            let written = number_at(cont.numbers.as_slice(), 1);
+            let bytes = run_piece(alloc, cont.bytes.as_slice(), written)?;
+            Ok(Call::MemoryWrite {
+                process,
+                address: RUN_ADDRESS + written,
+                bytes,
+            })
+        }
+        Stage::ProtectRun => Ok(Call::MemoryProtect {
+            process,
+            page: RUN_PAGE,
+            count: count_of_pages(cont.bytes.as_slice()),
+            rights: RUN_RIGHTS,
+        }),
+        Stage::AllocateStack => Ok(Call::MemoryAllocate {
+            process,
+            page: STACK_PAGE,
+            count: STACK_PAGES,
+            rights: READ_WRITE,
+        }),
+        Stage::WriteBlock => {
+            let args = arguments(cont);
+            let bytes = block(alloc, args)?;
+            Ok(Call::MemoryWrite {
+                process,
+                address: block_address(args),
+                bytes,
+            })
+        }
+        _ => unreachable!(),
+    }
+}
+
+/// The call of a stage that starts a run.
+pub fn asked_start(os: &LibOs, alloc: Global, cont: &Cont) -> Result<Call, Memory>
+    requires kept { KeptAt cont.now cont.now.stage }
+    requires stage { is_service cont.now.stage ≡ false }
+    ensures { IfOk result (λ call. call ≡ spec.asked os.now cont.now cont.now.stage) }
+{
+    let process = number_at(cont.handles.as_slice(), 3);
+    match cont.stage {
+        Stage::CreateProcess => Ok(Call::ProcessCreate),
+        Stage::AllocateRun
+        | Stage::WriteRun
+        | Stage::ProtectRun
+        | Stage::AllocateStack
+        | Stage::WriteBlock => asked_filling(alloc, process, cont),
+        Stage::CreateThread => Ok(Call::ThreadCreate {
+            process,
+            context: first_context(arguments(cont)),
+        }),
+        Stage::CreateEvent => Ok(Call::EventCreate),
+        Stage::StartThread => Ok(Call::ThreadResume {
+            thread: number_at(cont.handles.as_slice(), 4),
+        }),
+        _ => asked_reading(os, alloc, cont),
+    }
+}

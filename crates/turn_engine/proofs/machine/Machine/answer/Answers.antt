@@ -1,0 +1,32 @@
+use Rattle.libos_calls.proofs.Keeps.{kept_of}
+use Rattle.turn_engine.proofs.Steps.{answer_serves}
+use Rattle.turn_engine.proofs.Starts.{quiet_step}
+use Rattle.turn_engine.proofs.Halting.{halts_call, halts_answered}
+use Rattle.turn_engine.proofs.Progress.{calls_left_pending, on_err}
+use Rattle.turn_engine.proofs.machine.Machine.answer.Goals as goal
+
+pub returns-in_err-reply-clause-halts : goal.returns-in_err-reply-clause-halts
+returns-in_err-reply-clause-halts g c =
+    on_err _ _ (halts_call c.args.self.now.os (g.H.Host.objects c.args.host.now) (g.H.Host.told c.args.host.now) (g.H.Host.told c.call.new.self) c.args.call.now
+    c.requires.asks c.requires.fits c.in_err-reply.ensures.left)
+
+pub answered-requires : goal.answered-requires
+answered-requires g c = kept_of c.args.self.now.os (g.H.Host.objects c.args.host.now) c.requires.fits
+
+pub returns-in_err-answered-clause-halts : goal.returns-in_err-answered-clause-halts
+returns-in_err-answered-clause-halts g c =
+    on_err _ _ (halts_answered c.args.self.now.os (g.H.Host.objects c.args.host.now) (g.H.Host.objects c.call.new.self) (g.H.Host.told c.args.host.now) (g.H.Host.told c.call.new.self)
+    c.args.call.now c.in_ok-reply.reply c.requires.asks c.requires.fits (g.met.H.Host.sound c.args.host.now) c.in_ok-reply.ensures.row)
+
+pub returns-clause-serves : goal.returns-clause-serves
+returns-clause-serves g c =
+    answer_serves c.args.self.now.os c.answered.new.os (g.H.Host.objects c.args.host.now) (g.H.Host.objects c.call.new.self) (g.H.Host.told c.args.host.now) (g.H.Host.told c.call.new.self)
+    c.args.call.now c.in_ok-reply.reply c.in_ok-answered.ensures.kept c.in_ok-answered.ensures.value c.requires.asks c.requires.fits (g.met.H.Host.sound c.args.host.now) c.in_ok-reply.ensures.row
+
+pub returns-clause-quiet : goal.returns-clause-quiet
+returns-clause-quiet g c =
+    quiet_step c.args.self.now.os c.answered.new.os (g.H.Host.objects c.args.host.now) (g.H.Host.objects c.call.new.self) (g.H.Host.told c.args.host.now) (g.H.Host.told c.call.new.self)
+    c.args.call.now c.in_ok-reply.reply c.in_ok-answered.ensures.value c.requires.asks c.requires.fits c.in_ok-reply.ensures.row
+
+pub returns-clause-nearer : goal.returns-clause-nearer
+returns-clause-nearer g c = c.in_ok-answered.ensures.nearer (calls_left_pending c.args.self.now.os c.args.call.now c.requires.asks)

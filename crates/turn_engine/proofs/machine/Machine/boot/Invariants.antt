@@ -1,0 +1,15 @@
+use Rattle.std.proofs.Common.{◌≤◌}
+use Rattle.libos_calls.specs.Left.{calls_left}
+use Rattle.turn_engine.specs.Serves.{Serves}
+use Rattle.turn_engine.specs.Halts.{StartsQuietly}
+use Rattle.turn_engine.proofs.machine.Machine.boot.Given as goal
+
+abbrev pub invariant-loop : goal.invariant-loop
+invariant-loop g l = record {
+  serves : Serves l.fn.self.os (g.H.Host.objects l.fn.host) (g.H.Host.told l.fn.host) l.self.os (g.H.Host.objects l.host) (g.H.Host.told l.host);
+  quiet : StartsQuietly l.fn.self.os (g.H.Host.told l.fn.host) l.self.os (g.H.Host.told l.host);
+  later : g.H.Host.fault_count l.fn.host ≤ g.H.Host.fault_count l.host;
+}
+
+abbrev pub decreases-loop : goal.decreases-loop
+decreases-loop g l = calls_left l.self.os

@@ -1,0 +1,10 @@
+use Rattle.libos_calls.proofs.Keeps.{kept_of}
+use Rattle.turn_engine.proofs.Halting.{halts_same}
+use Rattle.turn_engine.proofs.Progress.{on_err}
+use Rattle.turn_engine.proofs.machine.Machine.step.Goals as goal
+
+pub pending-requires : goal.pending-requires
+pending-requires g c = kept_of c.args.self.now.os (g.H.Host.objects c.args.host.now) c.requires.fits
+
+pub returns-in_err-call-clause-halts : goal.returns-in_err-call-clause-halts
+returns-in_err-call-clause-halts g c = on_err _ _ (halts_same c.args.self.now.os (g.H.Host.objects c.args.host.now) (g.H.Host.told c.args.host.now))

@@ -1,0 +1,37 @@
+use Rattle.std.proofs.Common.{sym, subst}
+use Rattle.abi_calls.specs.World.{Told}
+use Rattle.turn_engine.specs.Halts.{HaltsTurn}
+use Rattle.turn_engine.proofs.Steps.{ran_turn, trap_fits, trap_turn}
+use Rattle.turn_engine.proofs.Halting.{halts_turn_same, halts_turn_served}
+use Rattle.turn_engine.proofs.Progress.{on_err}
+use Rattle.turn_engine.proofs.machine.Machine.turn.Goals as goal
+
+pub returns-in_err-enter-in-Exception-clause-halts : goal.returns-in_err-enter-in-Exception-clause-halts
+returns-in_err-enter-in-Exception-clause-halts g c =
+    on_err _ _ (subst (λ (v : Told). HaltsTurn c.args.self.now.os (g.H.Host.objects c.args.host.now) (g.H.Host.told c.args.host.now) v) (sym c.in-Exception.ensures.told)
+    (halts_turn_same c.args.self.now.os (g.H.Host.objects c.args.host.now) (g.H.Host.told c.args.host.now)))
+
+pub boot-requires : goal.boot-requires
+boot-requires g c = record {
+  fits = trap_fits c.args.self.now.os c.enter.new.os (g.H.Host.objects c.args.host.now) (g.H.Host.objects c.turn.new.self) c.in-Exception.upcall
+      c.requires.up c.requires.alive (g.met.H.Host.sound c.args.host.now) c.in_ok-enter-in-Exception.ensures.turn c.in-Exception.ensures.turned;
+}
+
+pub returns-in_err-boot-in-Exception-clause-halts : goal.returns-in_err-boot-in-Exception-clause-halts
+returns-in_err-boot-in-Exception-clause-halts g c =
+    on_err _ _ (halts_turn_served c.args.self.now.os c.enter.new.os (g.H.Host.objects c.args.host.now) (g.H.Host.objects c.turn.new.self) (g.H.Host.objects c.boot.new.host)
+    (g.H.Host.told c.args.host.now) (g.H.Host.told c.turn.new.self) (g.H.Host.told c.boot.new.host) c.in-Exception.upcall
+    c.requires.up c.requires.alive (g.met.H.Host.sound c.args.host.now) c.in-Exception.ensures.turned c.in-Exception.ensures.told c.in_ok-enter-in-Exception.ensures.turn
+    c.in_err-boot-in-Exception.ensures.halts)
+
+pub returns-in-Ran-clause-turn : goal.returns-in-Ran-clause-turn
+returns-in-Ran-clause-turn g c =
+    ran_turn c.args.self.now.os (g.H.Host.objects c.args.host.now) (g.H.Host.objects c.turn.new.self) (g.H.Host.told c.args.host.now) (g.H.Host.told c.turn.new.self)
+    c.requires.up c.requires.alive (g.met.H.Host.sound c.args.host.now) c.in-Ran.ensures.turned c.in-Ran.ensures.told
+
+pub returns-in_ok-boot-in-Exception-clause-turn : goal.returns-in_ok-boot-in-Exception-clause-turn
+returns-in_ok-boot-in-Exception-clause-turn g c =
+    trap_turn c.args.self.now.os c.enter.new.os c.boot.new.self.os (g.H.Host.objects c.args.host.now) (g.H.Host.objects c.turn.new.self) (g.H.Host.objects c.boot.new.host)
+    (g.H.Host.told c.args.host.now) (g.H.Host.told c.turn.new.self) (g.H.Host.told c.boot.new.host) c.in-Exception.upcall
+    c.requires.up c.requires.alive (g.met.H.Host.sound c.args.host.now) c.in-Exception.ensures.turned c.in-Exception.ensures.told
+    c.in_ok-enter-in-Exception.ensures.turn c.in_ok-enter-in-Exception.ensures.value c.in_ok-boot-in-Exception.ensures.serves c.in_ok-boot-in-Exception.ensures.settled

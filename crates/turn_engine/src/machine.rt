@@ -1,0 +1,147 @@
+ghost use Rattle.std.specs.Prelude.{◌≡◌, ◌<◌, Some, None, true, false, IfOk, OnOk, OnErr};
+ghost use Rattle.bas_edge.specs.Faults.{HasCause};
+ghost use Rattle.libos_state.specs.Pending as libos;
+ghost use Rattle.libos_state.specs.Fits.{Fits, exit_code};
+ghost use Rattle.libos_state.specs.Laws.{AsksTaken};
+ghost use Rattle.libos_calls.specs.Left.{calls_left};
+ghost use Rattle.turn_engine.specs.Serves.{Serves, IsUp, MakesTurn};
+ghost use Rattle.turn_engine.specs.Halts.{Halts, HaltsTurn, StartsQuietly};
+
+use abi_calls::{Call, Host, HostError, Turned};
+use bas_edge::Memory;
+use libos_calls::{answered, enter, pending};
+use libos_state::LibOs;
+use std::alloc::Global;
+use thiserror::Error;
+
+/// Why the machine can't go on. It is spent then, and so is its host.
+#[derive(Clone, Copy, Debug, PartialEq, Eq, Error)]
+pub enum EngineError {
+    /// The outside failed; the host's count of faults rose.
+    #[error("the outside failed")]
+    Failed,
+    /// There was no memory.
+    #[error("out of memory")]
+    Memory,
+}
+
+impl From<HostError> for EngineError {
+    ghost use Rattle.turn_engine.specs.Errors.{of_host};
+
+    ghost from_gives = { λ error given. given ≡ of_host error };
+
+    fn from(error: HostError) -> EngineError {
+        match error {
+            HostError::Failed => EngineError::Failed,
+            HostError::Memory => EngineError::Memory,
+        }
+    }
+}
+
+impl From<Memory> for EngineError {
+    ghost use Rattle.turn_engine.specs.declared.machine.EngineError.TheVariants.{Memory as no_memory};
+
+    ghost from_gives = { λ _ given. given ≡ no_memory };
+
+    fn from(_error: Memory) -> EngineError {
+        EngineError::Memory
+    }
+}
+
+/// How a turn of the machine ended.
+#[derive(Clone, Copy, Debug, PartialEq, Eq)]
+pub enum TurnEnd {
+    /// A thread did its instructions.
+    Ran,
+    /// A thread trapped and was served.
+    Served,
+}
+
+/// The library OS over a host.
+#[derive(Debug, Drop)]
+pub struct Machine {
+    pub os: LibOs,
+}
+
+impl Machine {
+    /// Makes the pending call, and gives its reply to the library OS.
+    fn answer<H: Host>(
+        &mut self,
+        alloc: Global,
+        host: &mut H,
+        call: &Call,
+    ) -> Result<(), EngineError>
+        requires asks { libos.pending self.old.os ≡ Some call.now }
+        requires taken { AsksTaken self.old.os call.now }
+        requires fits { Fits self.old.os (H.objects host.old) }
+        ensures serves { OnOk result (Serves self.old.os (H.objects host.old) (H.told host.old) self.new.os (H.objects host.new) (H.told host.new)) }
+        ensures quiet { OnOk result (StartsQuietly self.old.os (H.told host.old) self.new.os (H.told host.new)) }
+        ensures halts { OnErr result (Halts self.old.os (H.objects host.old) (H.told host.old) (H.told host.new)) }
+        ensures nearer { OnOk result (calls_left self.new.os < calls_left self.old.os) }
+        ensures cause { HasCause EngineError.Failed (H.fault_count host.old) (H.fault_count host.new) result }
+    {
+        let reply = host.call(call)?;
+        answered(&mut self.os, alloc, &reply)?;
+        Ok(())
+    }
+
+    /// Makes the next call of the service in progress; `false` where none is in progress.
+    fn step<H: Host>(&mut self, alloc: Global, host: &mut H) -> Result<bool, EngineError>
+        requires fits { Fits self.old.os (H.objects host.old) }
+        ensures serves { OnOk result (Serves self.old.os (H.objects host.old) (H.told host.old) self.new.os (H.objects host.new) (H.told host.new)) }
+        ensures quiet { OnOk result (StartsQuietly self.old.os (H.told host.old) self.new.os (H.told host.new)) }
+        ensures halts { OnErr result (Halts self.old.os (H.objects host.old) (H.told host.old) (H.told host.new)) }
+        ensures nearer { IfOk result (λ more. more ≡ true → calls_left self.new.os < calls_left self.old.os) }
+        ensures settled { IfOk result (λ more. more ≡ false → self.new.os.cont ≡ None) }
+        ensures cause { HasCause EngineError.Failed (H.fault_count host.old) (H.fault_count host.new) result }
+    {
+        let call = pending(&self.os, alloc)?;
+        match call {
+            None => Ok(false),
+            Some(call) => {
+                self.answer(alloc, host, &call)?;
+                Ok(true)
+            }
+        }
+    }
+
+    /// Serves the service in progress to its end.
+    ///
+    /// # Errors
+    /// `Failed` only where the host's faults rose; `Memory`. The machine is spent then, and what the program wrote is
+    /// a front of what the service writes.
+    pub fn boot<H: Host>(&mut self, alloc: Global, host: &mut H) -> Result<(), EngineError>
+        requires fits { Fits self.old.os (H.objects host.old) }
+        ensures serves { OnOk result (Serves self.old.os (H.objects host.old) (H.told host.old) self.new.os (H.objects host.new) (H.told host.new)) }
+        ensures quiet { OnOk result (StartsQuietly self.old.os (H.told host.old) self.new.os (H.told host.new)) }
+        ensures halts { OnErr result (Halts self.old.os (H.objects host.old) (H.told host.old) (H.told host.new)) }
+        ensures settled { OnOk result (self.new.os.cont ≡ None) }
+        ensures cause { HasCause EngineError.Failed (H.fault_count host.old) (H.fault_count host.new) result }
+    {
+        while self.step(alloc, host)? {}
+        Ok(())
+    }
+
+    /// Makes one turn of the host, and serves the trap, if there is one, to its end.
+    ///
+    /// # Errors
+    /// `Failed` only where the host's faults rose; `Memory`. The machine is spent then.
+    pub fn turn<H: Host>(&mut self, alloc: Global, host: &mut H) -> Result<TurnEnd, EngineError>
+        requires up { IsUp self.old.os (H.objects host.old) }
+        requires alive { exit_code self.old.os ≡ None }
+        ensures turn { OnOk result (MakesTurn self.old.os (H.objects host.old) (H.told host.old) self.new.os (H.objects host.new) (H.told host.new)) }
+        ensures halts { OnErr result (HaltsTurn self.old.os (H.objects host.old) (H.told host.old) (H.told host.new)) }
+        ensures cause { HasCause EngineError.Failed (H.fault_count host.old) (H.fault_count host.new) result }
+    {
+        match host.turn() {
+            Turned::Ran => Ok(TurnEnd::Ran),
+            Turned::Idle => unreachable!(),
+            Turned::Stuck => unreachable!(),
+            Turned::Exception(upcall) => {
+                enter(&mut self.os, alloc, &upcall)?;
+                self.boot(alloc, host)?;
+                Ok(TurnEnd::Served)
+            }
+        }
+    }
+}
