@@ -1,4 +1,7 @@
 //! Runs of the whole program over hosts of tests.
+ghost use Rattle.std.specs.Prelude.{IfOk};
+ghost use Rattle.abi_calls.specs.Fresh.{IsFreshWorld};
+
 use abi_calls::Host;
 use bas_edge::{ByteSink, ByteSource, CalmSink, CalmSource, CalmStore, MapStore};
 use bascule_top::{Outcome, bascule};
@@ -40,7 +43,9 @@ fn words(alloc: Global, name: &str) -> Result<Vec<String>, AllocError> {
     Ok(words)
 }
 
-fn calm_host(alloc: Global, program: &[u8]) -> Result<CalmHost, Fail> {
+fn calm_host(alloc: Global, program: &[u8]) -> Result<CalmHost, Fail>
+    ensures fresh { IfOk result (λ host. IsFreshWorld (⟦<CalmHost as Host>⟧.objects host) (⟦<CalmHost as Host>⟧.answered_count host)) }
+{
     let store = CalmStore::new(alloc, files(alloc, program)?)?;
     let input = CalmSource::new(Vec::new(alloc));
     Ok(Monitor::new(

@@ -11,7 +11,7 @@ use Rattle.abi_calls.specs.Fresh.{IsFreshWorld}
 use Rattle.abi_calls.specs.Sound.{IsSound}
 use Rattle.mono_model.specs.Machine.{Mono}
 use Rattle.mono_model.specs.Program.{Program, program_of}
-use Rattle.mono_model.specs.Starting.{Runs, NoProgram, BadProgram, boot, blank, started_if, begun_from}
+use Rattle.mono_model.specs.Starting.{Started, Runs, NoProgram, BadProgram, boot, blank, started_if, begun_from}
 use Rattle.mono_model.specs.Turns.{End, run_of, Ending}
 use Rattle.libos_state.specs.declared.state.LibOs.{LibOs}
 use Rattle.libos_state.specs.declared.state.Boot.{Boot}
@@ -23,14 +23,18 @@ use Rattle.libos_state.specs.Records.{base}
 use Rattle.libos_state.specs.Meaning.{meaning, meant, meant_idle}
 use Rattle.libos_state.specs.Fits.{Fits, exit_code}
 use Rattle.libos_state.proofs.Beginning.{CanBoot, boot_fits}
-use Rattle.turn_engine.specs.WhereTold.{WhereTold, world}
+use Rattle.turn_engine.specs.WhereTold.{WhereTold, world, whole}
 use Rattle.turn_engine.specs.Serves.{Serves, IsUp}
+use Rattle.turn_engine.specs.Halts.{Halts, HaltsRun, Fronts, StartsQuietly}
 use Rattle.turn_engine.proofs.Steps.{meaning_up}
+use Rattle.turn_engine.proofs.Starts.{going_start}
+use Rattle.turn_engine.proofs.Halting.{halts_same}
+use Rattle.turn_engine.proofs.Telling.{told_then}
 use Rattle.bascule_top.specs.declared.outcome.Outcome.{Outcome}
 use Rattle.bascule_top.specs.declared.outcome.Outcome.TheVariants as outcomes
 use Rattle.bascule_top.specs.Commands.{TURNS, is_name, start_settings, start_job}
 use Rattle.bascule_top.specs.Runs.{EndsRun, end_by}
-use Rattle.bascule_top.specs.Outcomes.{RunsTo, IsNoProgram, Says}
+use Rattle.bascule_top.specs.Outcomes.{RunsTo, IsNoProgram, StopsAt, Stops, Says}
 
 can_start : (name : List ℕ) → is_name name ≡ true → CanBoot name [] start_settings
 can_start name named =
@@ -109,22 +113,37 @@ meant_none : (os : LibOs) (w : _) (cont : Option Cont) (b : Boot) → cont ≡ N
 meant_none os w None b none is = ap (meant_idle os w) is
 meant_none os w (Some c) b none is = absurd (cc)
 
+same_contents : (whole : Option Contents) (x y z : Contents) → whole ≡ Some y → whole ≡ Some z → z ≡ x → y ≡ x
+same_contents whole x y z p q same = cc
+
+-- a start changes no contents
+pub start_quiet : (name : List ℕ) (os os' : LibOs) (t t' : Told)
+    → os ≡ booting name [] start_settings → StartsQuietly os t os' t' → WhereTold t t' (λ x y. y ≡ x)
+start_quiet name os os' t t' is quiet = quiet.quiet (going_start os (ap (λ (s : LibOs). s.boot) is))
+
 -- there is no file of the name
 pub none_says : (name : List ℕ) (os' : LibOs) (o' : Objects) (t t' : Told)
     → WhereTold t t' (λ x y. meaning os' (world o' y) ≡ boot start_settings x (start_job name)) → os'.cont ≡ None → os'.boot ≡ boots.NoProgram
-    → WhereTold t t' (λ x y. file_of x.files name ≡ None)
-none_says name os' o' t t' start none is = record {
+    → WhereTold t t' (λ x y. y ≡ x) → WhereTold t t' (λ x y. (file_of x.files name ≡ None) × (y ≡ x))
+none_says name os' o' t t' start none is quiet = record {
   holds = λ x e.
       let a = start.holds x e in
-      (a.0, a.1, no_file (blank start_settings (record { turns = 0; pick = 0; random = 0 }) x) (name ∷ []) (file_of x.files name) (sym a.2 ∙ meant_none os' (world o' a.0) os'.cont boots.NoProgram none is));
+      let q = quiet.holds x e in (
+        a.0,
+        a.1,
+        (
+          no_file (blank start_settings (record { turns = 0; pick = 0; random = 0 }) x) (name ∷ []) (file_of x.files name) (sym a.2 ∙ meant_none os' (world o' a.0) os'.cont boots.NoProgram none is),
+          same_contents (whole t') x a.0 q.0 a.1 q.1 q.2,
+        ),
+      );
 }
 
 -- the outcome names the program that there isn't
 pub no_program_says : (outcome : Outcome) (name : List ℕ) (os' : LibOs) (o' : Objects) (t t' : Told)
     → WhereTold t t' (λ x y. meaning os' (world o' y) ≡ boot start_settings x (start_job name)) → os'.cont ≡ None → os'.boot ≡ boots.NoProgram
-    → outcome ≡ outcomes.NoProgram name → Says outcome name t o' t'
-no_program_says outcome name os' o' t t' start none is named =
-    subst (λ (u : Outcome). Says u name t o' t') (sym named) (refl, none_says name os' o' t t' start none is)
+    → WhereTold t t' (λ x y. y ≡ x) → outcome ≡ outcomes.NoProgram name → Says outcome name t o' t'
+no_program_says outcome name os' o' t t' start none is quiet named =
+    subst (λ (u : Outcome). Says u name t o' t') (sym named) (refl, none_says name os' o' t t' start none is quiet)
 
 -- a run that isn't over has made all its turns
 pub bound_turns : (o o' o'' : Objects) (answered : ℕ) → IsFreshWorld o answered → o'.positions.turns ≡ o.positions.turns
@@ -134,9 +153,45 @@ bound_turns o o' o'' answered fresh same after = after ∙ ap (λ n. (n + TURNS)
 -- the file is no program
 pub bad_says : (name : List ℕ) (os' : LibOs) (o' : Objects) (t t' : Told) (cause : ElfError)
     → WhereTold t t' (λ x y. meaning os' (world o' y) ≡ boot start_settings x (start_job name)) → os'.cont ≡ None → os'.boot ≡ boots.BadProgram cause
-    → WhereTold t t' (λ x y. IsNoProgram name x)
-bad_says name os' o' t t' cause start none is = record {
+    → WhereTold t t' (λ x y. y ≡ x) → WhereTold t t' (λ x y. IsNoProgram name x × (y ≡ x))
+bad_says name os' o' t t' cause start none is quiet = record {
   holds = λ x e.
       let a = start.holds x e in
-      (a.0, a.1, bad_file name x (blank start_settings (record { turns = 0; pick = 0; random = 0 }) x) (name ∷ []) (file_of x.files name) refl (sym a.2 ∙ meant_none os' (world o' a.0) os'.cont (boots.BadProgram cause) none is));
+      let q = quiet.holds x e in (
+        a.0,
+        a.1,
+        (
+          bad_file name x (blank start_settings (record { turns = 0; pick = 0; random = 0 }) x) (name ∷ []) (file_of x.files name) refl (sym a.2 ∙ meant_none os' (world o' a.0) os'.cont (boots.BadProgram cause) none is),
+          same_contents (whole t') x a.0 q.0 a.1 q.1 q.2,
+        ),
+      );
 }
+
+-- ---- a start that is given up
+
+fronts_stops : (s : Started) (x y : Contents) → Fronts s x y → StopsAt s x y
+fronts_stops (Runs m) x y f = record { turns = 0; within = omega arith; fronts = f }
+fronts_stops NoProgram x y f = f
+fronts_stops BadProgram x y f = f
+
+-- while it is served
+pub halts_start : (name : List ℕ) (os : LibOs) (o : Objects) (t t' : Told) (answered : ℕ)
+    → is_name name ≡ true → IsFreshWorld o answered → IsSound o → os ≡ booting name [] start_settings → Halts os o t t' → Stops name t t'
+halts_start name os o t t' answered named fresh sound is halts = record {
+  holds = λ x e.
+      let a = halts.halts.holds x e in
+      let begins : meaning os (world o x) ≡ boot start_settings x (start_job name) = ap (λ (s : LibOs). meaning s (world o x)) is ∙ (boot_fits name [] start_settings (world o x) answered (can_start name named) fresh sound).means in
+      (a.0, a.1, fronts_stops (boot start_settings x (start_job name)) x a.0 (subst (λ s. Fronts s x a.0) begins a.2));
+}
+
+-- before it begins
+pub stops_first : (name : List ℕ) (o : Objects) (t : Told) (answered : ℕ) → is_name name ≡ true → IsFreshWorld o answered → IsSound o → Stops name t t
+stops_first name o t answered named fresh sound =
+    halts_start name (booting name [] start_settings) o t t answered named fresh sound refl (halts_same (booting name [] start_settings) o t)
+
+-- in its run
+pub halts_going : (name : List ℕ) (os' : LibOs) (o' : Objects) (t t' t'' : Told)
+    → WhereTold t t' (λ x y. meaning os' (world o' y) ≡ boot start_settings x (start_job name)) → IsUp os' o' → HaltsRun TURNS os' o' t' t'' → Stops name t t''
+halts_going name os' o' t t' t'' start up halts =
+    told_then t t' t'' _ _ (λ x z. StopsAt (boot start_settings x (start_job name)) x z)
+    (λ x y z p q. subst (λ s. StopsAt s x z) (sym (meaning_up os' o' (world o' y) up) ∙ p) q) start halts.halts

@@ -7,13 +7,15 @@ use Rattle.abi_calls.specs.Objects.{Objects}
 use Rattle.abi_calls.specs.World.{Contents, Told}
 use Rattle.mono_model.specs.Machine.{Mono}
 use Rattle.mono_model.specs.Program.{program_of}
-use Rattle.mono_model.specs.Starting.{Runs, boot}
+use Rattle.mono_model.specs.Starting.{Started, Runs, boot}
+use Rattle.mono_model.specs.Starting as starting
 use Rattle.mono_model.specs.Turns as mono
 use Rattle.mono_model.specs.Turns.{End, run_of}
 use Rattle.libos_state.specs.declared.state.LibOs.{LibOs}
 use Rattle.libos_state.specs.Records.{base}
 use Rattle.turn_engine.specs.WhereTold.{WhereTold, world}
 use Rattle.turn_engine.specs.Serves.{IsUp}
+use Rattle.turn_engine.specs.Halts.{IsUnwritten, FrontsRun}
 use Rattle.bascule_top.specs.declared.outcome.Outcome.{Outcome}
 use Rattle.bascule_top.specs.declared.outcome.Outcome.TheVariants.{Exited, Bound, NoProgram, BadProgram, BadWords, HostFault, OutOfMemory}
 use Rattle.bascule_top.specs.Commands.{TURNS, start_settings, start_job}
@@ -43,14 +45,23 @@ pub record IsNoProgram (name : List ℕ) (x : Contents) : Type 0 where
   pub there : file_of x.files name ≡ Some file
   pub refused : program_of file ≡ None
 
+-- A start is given up at y: where a program runs, on the way to the machine after some number of turns, else as at x.
+abbrev pub StopsAt : Started → Contents → Contents → Type 0
+StopsAt (Runs m) x y = FrontsRun TURNS m y
+StopsAt starting.NoProgram x y = IsUnwritten x y
+StopsAt starting.BadProgram x y = IsUnwritten x y
+
+abbrev pub Stops : List ℕ → Told → Told → Type 0
+Stops name told told' = WhereTold told told' (λ x y. StopsAt (boot start_settings x (start_job name)) x y)
+
 abbrev pub Says : Outcome → List ℕ → Told → Objects → Told → Type 0
 Says (Exited code) name told o' told' = WhereTold told told' (RunsTo name (mono.Exited code) o')
 Says (Bound turns) name told o' told' = (turns ≡ TURNS) × (o'.positions.turns ≡ TURNS) × WhereTold told told' (RunsTo name mono.Bound o')
-Says (NoProgram named) name told o' told' = (named ≡ name) × WhereTold told told' (λ x y. file_of x.files name ≡ None)
-Says (BadProgram cause) name told o' told' = WhereTold told told' (λ x y. IsNoProgram name x)
+Says (NoProgram named) name told o' told' = (named ≡ name) × WhereTold told told' (λ x y. (file_of x.files name ≡ None) × (y ≡ x))
+Says (BadProgram cause) name told o' told' = WhereTold told told' (λ x y. IsNoProgram name x × (y ≡ x))
 Says BadWords name told o' told' = ⊥
-Says HostFault name told o' told' = Unit {0}
-Says OutOfMemory name told o' told' = Unit {0}
+Says HostFault name told o' told' = Stops name told told'
+Says OutOfMemory name told o' told' = Stops name told told'
 
 -- The outcomes that a run gives: no fault and no want of memory.
 abbrev pub IsOfRun : Outcome → Type 0

@@ -1,7 +1,8 @@
-ghost use Rattle.std.specs.Prelude.{◌≡◌, IfOk};
+ghost use Rattle.std.specs.Prelude.{◌≡◌, IfOk, OnErr};
 ghost use Rattle.bas_edge.specs.Faults.{HasCause};
 ghost use Rattle.libos_state.specs.Fits as fits;
 ghost use Rattle.turn_engine.specs.Serves.{IsUp};
+ghost use Rattle.turn_engine.specs.Halts.{HaltsRun};
 ghost use Rattle.bascule_top.specs.Commands as spec;
 ghost use Rattle.bascule_top.specs.Runs.{EndsRun};
 
@@ -23,6 +24,7 @@ pub fn run<H: Host>(
     requires unturned { (H.objects host.old).positions.turns ≡ 0 }
     ensures code { IfOk result (λ code. code ≡ fits.exit_code machine.new.os) }
     ensures ends { IfOk result (λ _. EndsRun spec.TURNS machine.old.os (H.objects host.old) (H.told host.old) machine.new.os (H.objects host.new) (H.told host.new)) }
+    ensures halts { OnErr result (HaltsRun spec.TURNS machine.old.os (H.objects host.old) (H.told host.old) (H.told host.new)) }
     ensures cause { HasCause EngineError.Failed (H.fault_count host.old) (H.fault_count host.new) result }
 {
     for _turn in 0..TURNS {

@@ -1,9 +1,9 @@
-ghost use Rattle.std.specs.Prelude.{◌≡◌, ◌≢◌, None, Some, true, IfOk, MatchOption};
+ghost use Rattle.std.specs.Prelude.{◌≡◌, ◌≢◌, None, Some, true, IfOk, MatchOption, OnErr};
 ghost use Rattle.bas_edge.specs.Faults.{HasCause, Rose};
 ghost use Rattle.abi_calls.specs.Fresh.{IsFreshWorld};
 ghost use Rattle.bascule_top.specs.Commands.{command_of, words_of, is_name, start_settings};
 ghost use Rattle.bascule_top.specs.declared.outcome.Outcome.TheVariants.{NoProgram};
-ghost use Rattle.bascule_top.specs.Outcomes.{Headline, Says, IsOfRun};
+ghost use Rattle.bascule_top.specs.Outcomes.{Headline, Says, Stops, IsOfRun};
 
 use crate::outcome::Outcome;
 use crate::run::{TURNS, run};
@@ -58,6 +58,7 @@ fn start<H: Host>(alloc: Global, name: &[u8], host: &mut H) -> Result<Outcome, E
     requires named { is_name name.now ≡ true }
     ensures says { IfOk result (λ outcome. Says outcome name.now (H.told host.old) (H.objects host.new) (H.told host.new)) }
     ensures own { IfOk result IsOfRun }
+    ensures stops { OnErr result (Stops name.now (H.told host.old) (H.told host.new)) }
     ensures cause { HasCause EngineError.Failed (H.fault_count host.old) (H.fault_count host.new) result }
 {
     let os = boot(alloc, name, settings_of_start(alloc))?;
@@ -81,7 +82,8 @@ fn start<H: Host>(alloc: Global, name: &[u8], host: &mut H) -> Result<Outcome, E
 ///
 /// Where the host tells its contents, the outcome is that of the monolithic machine's run over them, its files, output
 /// and errors are those of the run's last state, and its world agrees with that state. `HostFault` comes only where
-/// the host's count of faults rose; `OutOfMemory` may come in place of any other outcome of a start.
+/// the host's count of faults rose; `OutOfMemory` may come in place of any other outcome of a start. After either, what
+/// the program wrote is a front of what the machine wrote after some number of turns, and the host is used no more.
 pub fn bascule<H: Host>(alloc: Global, words: &[String], host: &mut H) -> Outcome
     requires fresh { IsFreshWorld (H.objects host.old) (H.answered_count host.old) }
     ensures headline { Headline result (command_of (words_of words.now)) (H.objects host.old) (H.told host.old) (H.objects host.new) (H.told host.new) }

@@ -3,7 +3,7 @@ ghost use Rattle.std.specs.Prelude.{IsTrue};
 ghost use Rattle.libos_state.specs.Kept.{IsKept};
 
 use crate::{answered, boot, booted, enter, exit_code, pending};
-use abi_calls::{Call, Reply, Settings, StreamName, Upcall};
+use abi_calls::{Reply, Settings, Upcall};
 use bas_items::Items;
 use libos_state::{Boot, Description, DescriptorNote, Kind, LibOs, ProcessNote, Stage, ThreadNote};
 use rv_core::Context;
@@ -11,8 +11,8 @@ use std::alloc::Global;
 use std::process::Abort;
 use std::test::Fail;
 
-/// Whether nothing is in progress, or a stage of these that keeps nothing that a call rests on.
-fn is_plain_stage(os: &LibOs) -> bool
+/// Whether the service in progress is at a stage of these tests, and keeps what its next call rests on.
+fn can_go_on(os: &LibOs) -> bool
     ensures { IsTrue result → IsKept os.now }
 {
     match &os.cont {
@@ -23,19 +23,18 @@ fn is_plain_stage(os: &LibOs) -> bool
             | Stage::Resume
             | Stage::ReadMemory
             | Stage::WriteStream => true,
+            Stage::OpenConsole => cont.handles.len() < 3,
             _ => false,
         },
     }
 }
 
-/// The next call, after which the reply is taken.
-fn replied(rt: &impl Abort, os: &mut LibOs, alloc: Global, reply: Reply) -> Result<Call, Fail> {
-    assert!(rt; is_plain_stage(os));
-    let Some(call) = pending(os, alloc)? else {
-        panic!(rt; "no call is pending");
-    };
+/// The next call, written out, after which the reply is taken.
+fn replied(rt: &impl Abort, os: &mut LibOs, alloc: Global, reply: Reply) -> Result<String, Fail> {
+    assert!(rt; can_go_on(os));
+    let call = pending(os, alloc)?;
     answered(os, alloc, &reply)?;
-    Ok(call)
+    Ok(format!(in alloc; "{call:?}")?)
 }
 
 fn settings(alloc: Global) -> Settings {
@@ -52,8 +51,12 @@ fn settings(alloc: Global) -> Settings {
 #[test]
 fn a_start_begins_with_the_settings(rt: HostRuntime) -> Result<(), Fail> {
     let mut os = boot(rt.alloc(), b"hello", settings(rt.alloc()))?;
-    let call = replied(&rt, &mut os, rt.alloc(), Reply::Done)?;
-    assert!(rt; matches!(call, Call::Configure { .. }));
+    replied(&rt, &mut os, rt.alloc(), Reply::Done)?;
+    let call = replied(&rt, &mut os, rt.alloc(), Reply::Handle(3))?;
+    assert_eq!(rt;
+        call.as_str(),
+        "Some(StreamOpen { name: ConIn, create: false, exclusive: false })"
+    );
     assert!(rt; booted(&os) == Boot::Going);
     assert!(rt; exit_code(&os) == None);
     Ok(())
@@ -113,37 +116,24 @@ fn a_write_goes_to_the_stream_and_returns_the_count(rt: HostRuntime) -> Result<(
     let mut os = running(alloc)?;
     enter(&mut os, alloc, &system_call(64, [1, 0x10090, 2]))?;
     let bytes = Items::from_slice(alloc, b"hi")?;
-    let read = replied(&rt, &mut os, alloc, Reply::Bytes(bytes))?;
+    let call = replied(&rt, &mut os, alloc, Reply::Bytes(bytes))?;
+    assert_eq!(rt;
+        call.as_str(),
+        "Some(MemoryRead { process: 3, address: 65680, count: 2 })"
+    );
+    let call = replied(&rt, &mut os, alloc, Reply::Count(2))?;
+    assert_eq!(rt;
+        call.as_str(),
+        "Some(StreamWrite { stream: 7, offset: 0, bytes: Items { items: [104, 105] } })"
+    );
+    let call = replied(&rt, &mut os, alloc, Reply::Done)?;
     assert!(rt;
-        matches!(
-            read,
-            Call::MemoryRead {
-                process: 3,
-                address: 0x10090,
-                count: 2
-            }
+        call.starts_with(
+            "Some(ThreadContext { thread: 4, context: Context { pc: 65668, x: [0, 0, 0, 0, 0, 0, 0, 0, 0, 2, 65680, "
         )
     );
-    let written = replied(&rt, &mut os, alloc, Reply::Count(2))?;
-    let Call::StreamWrite {
-        stream,
-        offset: _,
-        bytes,
-    } = written
-    else {
-        panic!(rt; "no write to a stream");
-    };
-    assert!(rt; stream == 7);
-    assert_eq!(rt; bytes.as_slice(), b"hi".as_slice());
-    let given = replied(&rt, &mut os, alloc, Reply::Done)?;
-    let Call::ThreadContext { thread, context } = given else {
-        panic!(rt; "no registers are given");
-    };
-    assert!(rt; thread == 4);
-    assert!(rt; context.pc == 0x10084);
-    assert!(rt; context.x[9] == 2);
-    let resumed = replied(&rt, &mut os, alloc, Reply::Done)?;
-    assert!(rt; matches!(resumed, Call::ThreadResume { thread: 4 }));
-    assert!(rt; pending(&os, alloc)?.is_none());
+    let call = replied(&rt, &mut os, alloc, Reply::Done)?;
+    assert_eq!(rt; call.as_str(), "Some(ThreadResume { thread: 4 })");
+    assert!(rt; os.cont.is_none());
     Ok(())
 }

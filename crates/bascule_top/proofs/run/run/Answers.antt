@@ -4,6 +4,8 @@ use Rattle.libos_state.specs.Fits.{exit_code}
 use Rattle.bascule_top.specs.Commands.{TURNS}
 use Rattle.bascule_top.specs.Runs.{GoesOn}
 use Rattle.bascule_top.proofs.Going.{goes_turn, goes_ends, is_some_true, is_some_false}
+use Rattle.turn_engine.proofs.Halting.{turns_then, halts_run}
+use Rattle.turn_engine.proofs.Progress.{on_err}
 use Rattle.bascule_top.proofs.run.run.Goals as goal
 
 -- src/run.rt:27:13
@@ -27,6 +29,8 @@ loop-turn-preserved g c =
           (g.H.Host.objects c.args.host.now) (g.H.Host.objects c.loop-turn.host) (g.H.Host.objects c.turn.new.host) (g.H.Host.told c.args.host.now) (g.H.Host.told c.loop-turn.host) (g.H.Host.told c.turn.new.host)
           (subst (λ left. GoesOn c.loop-turn._turn left c.args.machine.now.os (g.H.Host.objects c.args.host.now) (g.H.Host.told c.args.host.now) c.loop-turn.machine.os (g.H.Host.objects c.loop-turn.host) (g.H.Host.told c.loop-turn.host)) one c.loop-turn.invariant.goes)
           (is_some_false (exit_code c.loop-turn.machine.os) alive) c.in_ok-turn.ensures.turn;
+      turns = turns_then c.loop-turn._turn c.args.machine.now.os c.loop-turn.machine.os c.turn.new.self.os (g.H.Host.objects c.args.host.now) (g.H.Host.objects c.loop-turn.host) (g.H.Host.objects c.turn.new.host)
+          (g.H.Host.told c.args.host.now) (g.H.Host.told c.loop-turn.host) (g.H.Host.told c.turn.new.host) c.loop-turn.invariant.turns c.in_ok-turn.ensures.turn;
       later = omega arith;
     }
 
@@ -37,3 +41,9 @@ returns-clause-ends g c =
     let all = c.loop-turn-test.false in
     goes_ends c.loop-turn._turn (TURNS - c.loop-turn._turn) TURNS c.args.machine.now.os c.loop-turn.machine.os (g.H.Host.objects c.args.host.now) (g.H.Host.objects c.loop-turn.host) (g.H.Host.told c.args.host.now) (g.H.Host.told c.loop-turn.host)
     (omega arith) c.loop-turn.invariant.goes (λ none. omega arith)
+
+pub returns-in_err-turn-clause-halts : goal.returns-in_err-turn-clause-halts
+returns-in_err-turn-clause-halts g c =
+    let below : c.loop-turn._turn < TURNS = c.loop-turn-test.true in
+    on_err _ _ (halts_run c.loop-turn._turn TURNS c.args.machine.now.os c.loop-turn.machine.os (g.H.Host.objects c.args.host.now) (g.H.Host.objects c.loop-turn.host)
+    (g.H.Host.told c.args.host.now) (g.H.Host.told c.loop-turn.host) (g.H.Host.told c.turn.new.host) (omega arith) c.loop-turn.invariant.turns c.in_err-turn.ensures.halts)

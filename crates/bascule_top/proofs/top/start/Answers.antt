@@ -5,7 +5,9 @@ use Rattle.libos_state.specs.Fits.{exit_code}
 use Rattle.libos_state.specs.declared.state.Boot.TheVariants as boots
 use Rattle.turn_engine.proofs.Steps.{settled_up}
 use Rattle.bascule_top.specs.Runs.{end_by}
-use Rattle.bascule_top.proofs.Saying.{start_fits, start_means, run_says, no_program_says, bad_says, bound_turns}
+use Rattle.turn_engine.proofs.Progress.{on_err}
+use Rattle.turn_engine.proofs.Halting.{halts_after, halts_same}
+use Rattle.bascule_top.proofs.Saying.{start_quiet, halts_start, halts_going, stops_first, start_fits, start_means, run_says, no_program_says, bad_says, bound_turns}
 use Rattle.bascule_top.proofs.top.start.Goals as goal
 
 pub boot-requires-2 : goal.boot-requires-2
@@ -19,7 +21,8 @@ returns-in-NoProgram-clause-says g c =
     c.requires.named c.requires.fresh (g.met.H.Host.sound c.args.host.now) (search rules) c.in_ok-boot.ensures.serves in
     let no : c.boot-2.new.self.os.boot ≡ boots.NoProgram = search rules in
     no_program_says c.in_ok-no_program-in-NoProgram.field-0 c.args.name.now c.boot-2.new.self.os (g.H.Host.objects c.boot-2.new.host) (g.H.Host.told c.args.host.now) (g.H.Host.told c.boot-2.new.host)
-    means c.in_ok-boot.ensures.settled no (search rules)
+    means c.in_ok-boot.ensures.settled no
+    (start_quiet c.args.name.now c.in_ok-os.os c.boot-2.new.self.os (g.H.Host.told c.args.host.now) (g.H.Host.told c.boot-2.new.host) (search rules) c.in_ok-boot.ensures.quiet) (search rules)
 
 pub returns-in-BadProgram-clause-says : goal.returns-in-BadProgram-clause-says
 returns-in-BadProgram-clause-says g c =
@@ -28,6 +31,7 @@ returns-in-BadProgram-clause-says g c =
     let bad : c.boot-2.new.self.os.boot ≡ boots.BadProgram c.in-BadProgram.cause = search rules in
     bad_says c.args.name.now c.boot-2.new.self.os (g.H.Host.objects c.boot-2.new.host) (g.H.Host.told c.args.host.now) (g.H.Host.told c.boot-2.new.host) c.in-BadProgram.cause
     means c.in_ok-boot.ensures.settled bad
+    (start_quiet c.args.name.now c.in_ok-os.os c.boot-2.new.self.os (g.H.Host.told c.args.host.now) (g.H.Host.told c.boot-2.new.host) (search rules) c.in_ok-boot.ensures.quiet)
 
 pub returns-in-Some-clause-says : goal.returns-in-Some-clause-says
 returns-in-Some-clause-says g c =
@@ -52,3 +56,32 @@ returns-clause-says g c =
           (g.H.Host.told c.args.host.now) (g.H.Host.told c.boot-2.new.host) (g.H.Host.told c.run.new.host)
           means (settled_up c.boot-2.new.self.os (g.H.Host.objects c.boot-2.new.host) c.in_ok-boot.ensures.serves.fits c.in_ok-boot.ensures.settled up) ends (ap end_by code),
     )
+
+pub returns-in_err-os-clause-stops : goal.returns-in_err-os-clause-stops
+returns-in_err-os-clause-stops g c =
+    on_err _ _ (stops_first c.args.name.now (g.H.Host.objects c.args.host.now) (g.H.Host.told c.args.host.now) (g.H.Host.answered_count c.args.host.now) c.requires.named c.requires.fresh (g.met.H.Host.sound c.args.host.now))
+
+pub returns-in_err-boot-clause-stops : goal.returns-in_err-boot-clause-stops
+returns-in_err-boot-clause-stops g c =
+    on_err _ _ (halts_start c.args.name.now c.in_ok-os.os (g.H.Host.objects c.args.host.now) (g.H.Host.told c.args.host.now) (g.H.Host.told c.boot-2.new.host) (g.H.Host.answered_count c.args.host.now)
+    c.requires.named c.requires.fresh (g.met.H.Host.sound c.args.host.now) (search rules) c.in_err-boot.ensures.halts)
+
+pub returns-in_err-no_program-in-NoProgram-clause-stops : goal.returns-in_err-no_program-in-NoProgram-clause-stops
+returns-in_err-no_program-in-NoProgram-clause-stops g c =
+    let os = c.in_ok-os.os in
+    let os' = c.boot-2.new.self.os in
+    let o = g.H.Host.objects c.args.host.now in
+    let o' = g.H.Host.objects c.boot-2.new.host in
+    let t = g.H.Host.told c.args.host.now in
+    let t' = g.H.Host.told c.boot-2.new.host in
+    let fits = start_fits c.args.name.now os o (g.H.Host.answered_count c.args.host.now) c.requires.named c.requires.fresh (g.met.H.Host.sound c.args.host.now) (search rules) in
+    on_err _ _ (halts_start c.args.name.now os o t t' (g.H.Host.answered_count c.args.host.now) c.requires.named c.requires.fresh (g.met.H.Host.sound c.args.host.now) (search rules)
+    (halts_after os os' o o' t t' t' fits c.in_ok-boot.ensures.serves c.in_ok-boot.ensures.quiet (halts_same os' o' t')))
+
+pub returns-in_err-code-in-Up-clause-stops : goal.returns-in_err-code-in-Up-clause-stops
+returns-in_err-code-in-Up-clause-stops g c =
+    let means = start_means c.args.name.now c.in_ok-os.os c.boot-2.new.self.os (g.H.Host.objects c.args.host.now) (g.H.Host.objects c.boot-2.new.host) (g.H.Host.told c.args.host.now) (g.H.Host.told c.boot-2.new.host) (g.H.Host.answered_count c.args.host.now)
+    c.requires.named c.requires.fresh (g.met.H.Host.sound c.args.host.now) (search rules) c.in_ok-boot.ensures.serves in
+    let up : c.boot-2.new.self.os.boot ≡ boots.Up = search rules in
+    on_err _ _ (halts_going c.args.name.now c.boot-2.new.self.os (g.H.Host.objects c.boot-2.new.host) (g.H.Host.told c.args.host.now) (g.H.Host.told c.boot-2.new.host) (g.H.Host.told c.run.new.host)
+    means (settled_up c.boot-2.new.self.os (g.H.Host.objects c.boot-2.new.host) c.in_ok-boot.ensures.serves.fits c.in_ok-boot.ensures.settled up) c.in_err-code-in-Up.ensures.halts)
