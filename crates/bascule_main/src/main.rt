@@ -11,8 +11,6 @@ use std::process::ExitCode;
 use std::rt::Env;
 
 mod folder;
-#[cfg(test)]
-mod runs;
 mod streams;
 #[cfg(test)]
 mod tests;
