@@ -6,3 +6,4 @@ pub mod Gaps
 pub mod RefusalLaws
 pub mod Accesses
 pub mod Copies
+pub mod Hints

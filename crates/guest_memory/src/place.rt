@@ -1,5 +1,5 @@
-ghost use Rattle.std.specs.Prelude.{MatchOption, MatchResult};
-ghost use Rattle.guest_memory.specs.Pages.{AreInOrder, IsFound, IsAbsent, IsGap, IsPlaceOf};
+ghost use Rattle.std.specs.Prelude.{MatchOption, MatchResult, length};
+ghost use Rattle.guest_memory.specs.Pages.{AreInOrder, AreKept, AreNoted, IsFound, IsAbsent, IsGap, IsPlaceOf};
 
 use crate::page::Page;
 
@@ -34,9 +34,12 @@ pub fn find(pages: &[Page], hints: &Hints, number: u64) -> Option<usize>
     }
 }
 
-/// Notes where the pages from the place `from` on are.
-pub fn note_places(pages: &[Page], hints: &mut Hints, from: usize) {
-    for (place, page) in pages.iter().enumerate().skip(from) {
-        hints[(page.number % HINTS as u64) as usize] = (place % 65536) as u16;
+/// Notes where the pages from the place `from` on are: of those that share a hint, the last. The other hints stay.
+pub fn note_places(pages: &[Page], hints: &mut Hints, from: usize)
+    ensures noted { AreNoted pages.now hints.new from (length pages.now) }
+    ensures kept { AreKept pages.now hints.old hints.new from (length pages.now) }
+{
+    for place in from..pages.len() {
+        hints[(pages[place].number % HINTS as u64) as usize] = (place % 65536) as u16;
     }
 }
