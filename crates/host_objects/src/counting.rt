@@ -47,7 +47,7 @@ impl Counting {
 
 impl Numbers for Counting {
     ghost use Rattle.host_objects.specs.Counting.{last_of, is_live_in};
-    ghost use Rattle.host_objects.specs.Numbers.{Gives, StaysLive, Counts};
+    ghost use Rattle.host_objects.specs.Numbers.{Gives, TakesBack, StaysLive, Counts};
 
     ghost is_live = { is_live_in };
 
@@ -70,7 +70,10 @@ impl Numbers for Counting {
         }
     }
 
-    fn back(&mut self, number: u64) {
+    fn back(&mut self, number: u64)
+        ensures back { TakesBack (is_live_in self.old) number (is_live_in self.new) }
+        ensures same_last { last_of self.new ≡ last_of self.old }
+    {
         self.live.remove(&number);
     }
 
