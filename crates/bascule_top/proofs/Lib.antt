@@ -1,2 +1,4 @@
 pub mod Going
 pub mod Saying
+pub mod Pages
+pub mod Hello

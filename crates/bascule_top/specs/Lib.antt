@@ -2,3 +2,4 @@ pub mod Commands
 pub mod Runs
 pub mod Outcomes
 pub mod Status
+pub mod Hello

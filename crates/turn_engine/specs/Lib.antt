@@ -2,3 +2,4 @@ pub mod WhereTold
 pub mod Serves
 pub mod Halts
 pub mod Errors
+pub mod Ends

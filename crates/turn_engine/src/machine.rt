@@ -5,6 +5,7 @@ ghost use Rattle.libos_state.specs.Fits.{Fits, exit_code};
 ghost use Rattle.libos_state.specs.Laws.{AsksTaken};
 ghost use Rattle.libos_calls.specs.Left.{calls_left};
 ghost use Rattle.turn_engine.specs.Serves.{Serves, IsUp, MakesTurn};
+ghost use Rattle.turn_engine.specs.Ends.{EndsTurn};
 ghost use Rattle.turn_engine.specs.Halts.{Halts, HaltsTurn, StartsQuietly};
 
 use abi_calls::{Call, Host, HostError, Turned};
@@ -125,10 +126,13 @@ impl Machine {
     /// Makes one turn of the host, and serves the trap, if there is one, to its end.
     ///
     /// # Errors
-    /// `Failed` only where the host's faults rose; `Memory`. The machine is spent then.
+    /// `Failed` only where the host's faults rose; `Memory`. Both come only where there is a trap to serve, and the
+    /// machine is spent then.
     pub fn turn<H: Host>(&mut self, alloc: Global, host: &mut H) -> Result<TurnEnd, EngineError>
         requires up { IsUp self.old.os (H.objects host.old) }
         requires alive { exit_code self.old.os ≡ None }
+        ensures ends { IfOk result (λ end. EndsTurn (H.objects host.old) end) }
+        ensures serving { OnErr result (EndsTurn (H.objects host.old) TurnEnd.Served) }
         ensures turn { OnOk result (MakesTurn self.old.os (H.objects host.old) (H.told host.old) self.new.os (H.objects host.new) (H.told host.new)) }
         ensures halts { OnErr result (HaltsTurn self.old.os (H.objects host.old) (H.told host.old) (H.told host.new)) }
         ensures cause { HasCause EngineError.Failed (H.fault_count host.old) (H.fault_count host.new) result }

@@ -1,0 +1,286 @@
+-- The run of /bin/hi, worked out.
+use Rattle.std.proofs.Common.{◌≡◌, ◌≢◌, ℕ, suc, ◌+◌, ◌*◌, ◌%◌, ◌^◌, ◌<◌, true, if◌then◌else◌, List, [], ◌∷◌, ◌++◌, length, get_or, slice_index, slice_get, refl, ◌∙◌, ap, arith}
+use Rattle.std.specs.Option.{option_or}
+use Rattle.std.specs.Ordering.{nat_cmp}
+use Rattle.std.specs.FinMap.{empty, get, insert}
+use Rattle.std.specs.declared.option.Option.{Option}
+use Rattle.std.specs.declared.option.Option.TheVariants.{None, Some}
+use Rattle.rv_core.specs.declared.context.Context.{Context}
+use Rattle.rv_core.specs.Memory.{Memory, byte_if, above, fetched}
+use Rattle.rv_core.specs.Listing.{decoded}
+use Rattle.rv_core.specs.Machine.{Outcome, Goes, Faults, Reached, instruction, instructions, go_on, executed_at}
+use Rattle.guest_space.specs.First.{first_some}
+use Rattle.guest_space.specs.Space.{Space, IsSpace, memory_of, bytes_from, byte_or_zero}
+use Rattle.guest_space.specs.Access.{first_fault, fault_of_cell}
+use Rattle.guest_space.specs.Running.{Ran, run_space, ran_from}
+use Rattle.guest_space.proofs.Cells.{with_memory_same}
+use Rattle.bas_edge.specs.Files.{file_of}
+use Rattle.abi_calls.specs.declared.call.StreamName.TheVariants.{ConOut, ConErr}
+use Rattle.abi_calls.specs.World.{Contents}
+use Rattle.abi_calls.proofs.NumberMaps.{get_same, get_other}
+use Rattle.mono_model.specs.Machine.{Mono, Process, Thread, Description, process_at, thread_at, with_process, with_thread, exit_code, code_in, exited}
+use Rattle.mono_model.specs.Calls.{Caller, served, finished, ended, description_of, described_in, described_by, writable, write_to, write_unless, memory_in}
+use Rattle.mono_model.specs.Program.{headers, is_plain, plain_program}
+use Rattle.mono_model.specs.Starting.{Runs, blank, begun, begun_from, started_if, boot, console_descriptors, console_descriptions}
+use Rattle.mono_model.specs.Turns.{Ending, Exited, pick_of, picked, with_memory_in, with_run, after_run, run_thread, turn_at, turn_of, run_of}
+use Rattle.mono_model.proofs.RunLaws.{run_exited, run_turn}
+use Rattle.bascule_top.specs.Commands.{TURNS, start_settings, start_job}
+use Rattle.bascule_top.specs.Hello.{hello_name, hello_file, hello_text, SaysHello}
+use Rattle.bascule_top.proofs.Pages.{program_cell, begins_with, program_there, begins_in_space}
+
+-- ---- instructions
+
+-- A word of the program.
+word_there : (m : Memory) (at a b c d : ℕ) → m at ≡ program_cell a → m ((at + 1) % 2 ^ 64) ≡ program_cell b → m (((at + 1) % 2 ^ 64 + 1) % 2 ^ 64) ≡ program_cell c → m ((((at + 1) % 2 ^ 64 + 1) % 2 ^ 64 + 1) % 2 ^ 64) ≡ program_cell d
+    → fetched m at ≡ Some (a + (b + (c + (d + 0 * 256) * 256) * 256) * 256)
+word_there m at a b c d p q r s = λ i. above (byte_if 4 (p i)) (above (byte_if 4 (q i)) (above (byte_if 4 (r i)) (above (byte_if 4 (s i)) (Some 0))))
+
+goes_on : (n : ℕ) (cx cx' : Context) (m : Memory) → instruction cx m ≡ Goes cx' m → instructions (suc n) cx m ≡ instructions n cx' m
+unfolding instructions
+goes_on n cx cx' m e = ap (λ (o : Outcome). go_on (λ (c : Context) (k : Memory). instructions n c k) cx m o) e
+
+traps : (n : ℕ) (cx : Context) (m : Memory) (cause value : ℕ) → instruction cx m ≡ Faults cause value → instructions (suc n) cx m ≡ record { context = cx; memory = m; trap = Some (cause, value) }
+unfolding instructions
+traps n cx m cause value e = ap (λ (o : Outcome). go_on (λ (c : Context) (k : Memory). instructions n c k) cx m o) e
+
+-- The registers: the stack pointer, a0 to a2, and a7; the others are 0.
+abbrev registers : ℕ → ℕ → ℕ → ℕ → ℕ → Context
+registers pc a0 a1 a2 a7 = record {
+  pc = pc;
+  x = 0 ∷ 0x3FFFFFFFD0 ∷ 0 ∷ 0 ∷ 0 ∷ 0 ∷ 0 ∷ 0 ∷ 0 ∷ a0 ∷ a1 ∷ a2 ∷ 0 ∷ 0 ∷ 0 ∷ 0 ∷ a7 ∷ 0 ∷ 0 ∷ 0 ∷ 0 ∷ 0 ∷ 0 ∷ 0 ∷ 0 ∷ 0 ∷ 0 ∷ 0 ∷ 0 ∷ 0 ∷ 0 ∷ [];
+}
+
+-- A memory that holds the program.
+record HoldsHello (m : Memory) : Type 0 where
+  there : (k : ℕ) → k < 39 → m (65536 + (120 + k)) ≡ program_cell (get_or hello_file (120 + k) 0)
+
+module _ (m : Memory) (holds : HoldsHello m) where
+  -- li a0, 1
+  first : instruction (registers 0x10078 0 0 0 0) m ≡ Goes (registers 0x1007c 1 0 0 0) m
+  unfolding hello_file decoded
+  first = ap (executed_at (registers 0x10078 0 0 0 0) m) (word_there m 0x10078 0x13 0x05 0x10 0 (holds.there 0 (omega arith)) (holds.there 1 (omega arith)) (holds.there 2 (omega arith)) (holds.there 3 (omega arith)))
+
+  -- auipc a1, 0
+  second : instruction (registers 0x1007c 1 0 0 0) m ≡ Goes (registers 0x10080 1 0x1007c 0 0) m
+  unfolding hello_file decoded
+  second = ap (executed_at (registers 0x1007c 1 0 0 0) m) (word_there m 0x1007c 0x97 0x05 0 0 (holds.there 4 (omega arith)) (holds.there 5 (omega arith)) (holds.there 6 (omega arith)) (holds.there 7 (omega arith)))
+
+  -- addi a1, a1, 32
+  third : instruction (registers 0x10080 1 0x1007c 0 0) m ≡ Goes (registers 0x10084 1 0x1009c 0 0) m
+  unfolding hello_file decoded
+  third = ap (executed_at (registers 0x10080 1 0x1007c 0 0) m) (word_there m 0x10080 0x93 0x85 0x05 0x02 (holds.there 8 (omega arith)) (holds.there 9 (omega arith)) (holds.there 10 (omega arith)) (holds.there 11 (omega arith)))
+
+  -- li a2, 3
+  fourth : instruction (registers 0x10084 1 0x1009c 0 0) m ≡ Goes (registers 0x10088 1 0x1009c 3 0) m
+  unfolding hello_file decoded
+  fourth = ap (executed_at (registers 0x10084 1 0x1009c 0 0) m) (word_there m 0x10084 0x13 0x06 0x30 0 (holds.there 12 (omega arith)) (holds.there 13 (omega arith)) (holds.there 14 (omega arith)) (holds.there 15 (omega arith)))
+
+  -- li a7, 64
+  fifth : instruction (registers 0x10088 1 0x1009c 3 0) m ≡ Goes (registers 0x1008c 1 0x1009c 3 64) m
+  unfolding hello_file decoded
+  fifth = ap (executed_at (registers 0x10088 1 0x1009c 3 0) m) (word_there m 0x10088 0x93 0x08 0 0x04 (holds.there 16 (omega arith)) (holds.there 17 (omega arith)) (holds.there 18 (omega arith)) (holds.there 19 (omega arith)))
+
+  -- ecall
+  sixth : instruction (registers 0x1008c 1 0x1009c 3 64) m ≡ Faults 8 0
+  unfolding hello_file decoded
+  sixth = ap (executed_at (registers 0x1008c 1 0x1009c 3 64) m) (word_there m 0x1008c 0x73 0 0 0 (holds.there 20 (omega arith)) (holds.there 21 (omega arith)) (holds.there 22 (omega arith)) (holds.there 23 (omega arith)))
+
+  -- li a0, 0
+  seventh : instruction (registers 0x10090 3 0x1009c 3 64) m ≡ Goes (registers 0x10094 0 0x1009c 3 64) m
+  unfolding hello_file decoded
+  seventh = ap (executed_at (registers 0x10090 3 0x1009c 3 64) m) (word_there m 0x10090 0x13 0x05 0 0 (holds.there 24 (omega arith)) (holds.there 25 (omega arith)) (holds.there 26 (omega arith)) (holds.there 27 (omega arith)))
+
+  -- li a7, 93
+  eighth : instruction (registers 0x10094 0 0x1009c 3 64) m ≡ Goes (registers 0x10098 0 0x1009c 3 93) m
+  unfolding hello_file decoded
+  eighth = ap (executed_at (registers 0x10094 0 0x1009c 3 64) m) (word_there m 0x10094 0x93 0x08 0xd0 0x05 (holds.there 28 (omega arith)) (holds.there 29 (omega arith)) (holds.there 30 (omega arith)) (holds.there 31 (omega arith)))
+
+  -- ecall
+  ninth : instruction (registers 0x10098 0 0x1009c 3 93) m ≡ Faults 8 0
+  unfolding hello_file decoded
+  ninth = ap (executed_at (registers 0x10098 0 0x1009c 3 93) m) (word_there m 0x10098 0x73 0 0 0 (holds.there 32 (omega arith)) (holds.there 33 (omega arith)) (holds.there 34 (omega arith)) (holds.there 35 (omega arith)))
+
+  up_to_write : instructions 1000 (registers 0x10078 0 0 0 0) m ≡ record { context = registers 0x1008c 1 0x1009c 3 64; memory = m; trap = Some (8, 0) }
+  up_to_write =
+      goes_on 999 (registers 0x10078 0 0 0 0) (registers 0x1007c 1 0 0 0) m first
+      ∙ goes_on 998 (registers 0x1007c 1 0 0 0) (registers 0x10080 1 0x1007c 0 0) m second
+      ∙ goes_on 997 (registers 0x10080 1 0x1007c 0 0) (registers 0x10084 1 0x1009c 0 0) m third
+      ∙ goes_on 996 (registers 0x10084 1 0x1009c 0 0) (registers 0x10088 1 0x1009c 3 0) m fourth
+      ∙ goes_on 995 (registers 0x10088 1 0x1009c 3 0) (registers 0x1008c 1 0x1009c 3 64) m fifth
+      ∙ traps 994 (registers 0x1008c 1 0x1009c 3 64) m 8 0 sixth
+
+  up_to_exit : instructions 1000 (registers 0x10090 3 0x1009c 3 64) m ≡ record { context = registers 0x10098 0 0x1009c 3 93; memory = m; trap = Some (8, 0) }
+  up_to_exit =
+      goes_on 999 (registers 0x10090 3 0x1009c 3 64) (registers 0x10094 0 0x1009c 3 64) m seventh
+      ∙ goes_on 998 (registers 0x10094 0 0x1009c 3 64) (registers 0x10098 0 0x1009c 3 93) m eighth
+      ∙ traps 997 (registers 0x10098 0 0x1009c 3 93) m 8 0 ninth
+
+  -- the text that is written
+  text_there : bytes_from m 0x1009c 3 ≡ hello_text
+  unfolding hello_file bytes_from
+  text_there = λ i. byte_or_zero (holds.there 36 (omega arith) i) ∷ byte_or_zero (holds.there 37 (omega arith) i) ∷ byte_or_zero (holds.there 38 (omega arith) i) ∷ []
+
+  text_readable : first_fault m 1 0x1009c 3 ≡ None
+  unfolding hello_file first_some
+  text_readable = λ i. option_or (fault_of_cell 1 (holds.there 36 (omega arith) i)) (option_or (fault_of_cell 1 (holds.there 37 (omega arith) i)) (option_or (fault_of_cell 1 (holds.there 38 (omega arith) i)) None))
+
+-- A run of instructions that leaves the memory leaves the pages.
+run_unwritten : (n : ℕ) (cx cx' : Context) (s : Space) (trap : Option (ℕ × ℕ)) → IsSpace s → instructions n cx (memory_of s) ≡ record { context = cx'; memory = memory_of s; trap = trap } → run_space n cx s ≡ record { context = cx'; space = s; trap = trap }
+run_unwritten n cx cx' s trap is e = ap (λ (r : Reached). ran_from s r) e ∙ ap (λ (t : Space). record { context = cx'; space = t; trap = trap }) (with_memory_same s is)
+
+-- ---- a turn of the only thread, which traps
+
+abbrev first_process : Space → Process
+first_process s = record { memory = s; code = None; descriptors = console_descriptors }
+
+abbrev first_thread : Context → Thread
+first_thread cx = record { process = 1; context = cx }
+
+abbrev caller : Context → Caller
+caller cx = record { thread = 1; process = 1; context = cx }
+
+-- The thread of process 1 is ready, with these registers, in this memory.
+record IsReady (m : Mono) (s : Space) (cx : Context) : Type 0 where
+  settings : m.settings ≡ start_settings
+  ready : m.ready ≡ 1 ∷ []
+  thread : thread_at m 1 ≡ Some (first_thread cx)
+  process : process_at m 1 ≡ Some (first_process s)
+  descriptions : m.descriptions ≡ console_descriptions
+
+-- The machine at the trap.
+abbrev at_trap : Mono → Space → Context → Mono
+at_trap m s cx = with_thread (with_process (picked m 0) 1 (first_process s)) 1 (first_thread cx)
+
+turn_trapped : (m : Mono) (s : Space) (cx cx' : Context) (cause value : ℕ) → IsReady m s cx → run_space 1000 cx s ≡ record { context = cx'; space = s; trap = Some (cause, value) }
+    → turn_of m ≡ served (at_trap m s cx') (caller cx') cause
+unfolding turn_of
+turn_trapped m s cx cx' cause value is run =
+    let place : pick_of m ≡ 0 = λ i. slice_index (is.settings i).picks m.positions.pick % length (is.ready i) in
+    let ran : run_space m.settings.slice cx (memory_in (process_at m 1)) ≡ record { context = cx'; space = s; trap = Some (cause, value) } =
+    (λ i. run_space (is.settings i).slice cx (memory_in (is.process i))) ∙ run in
+    ap (λ (p : ℕ). turn_at m p (slice_get m.ready p)) place
+    ∙ ap (λ (ready : List ℕ). turn_at m 0 (slice_get ready 0)) is.ready
+    ∙ ap (λ (t : Option Thread). run_thread (picked m 0) 1 t) is.thread
+    ∙ ap (λ (r : Ran). after_run (with_run (picked m 0) 1 1 r) 1 1 r.context r.trap) ran
+    ∙ ap (λ (p : Option Process). served (with_thread (with_memory_in (picked m 0) 1 s p) 1 (first_thread cx')) (caller cx') cause) is.process
+
+-- ---- the system calls
+
+output_descriptor : get {R = nat_cmp} console_descriptors 1 ≡ Some 2
+output_descriptor = get_other (insert (insert empty 2 3) 1 2) 0 1 1 (λ e. omega arith) ∙ get_same (insert empty 2 3) 1 2
+
+output_description : get {R = nat_cmp} console_descriptions 2 ≡ Some (record { stream = ConOut; access = 2 })
+output_description =
+    get_other _ 1 _ 2 (λ e. omega arith) ∙ get_same (insert {R = nat_cmp} empty 3 (record { stream = ConErr; access = 2 })) 2 (record { stream = ConOut; access = 2 })
+
+-- write(1, the text, 3)
+write_served : (m : Mono) (s : Space) → process_at m 1 ≡ Some (first_process s) → m.descriptions ≡ console_descriptions → HoldsHello (memory_of s)
+    → served m (caller (registers 0x1008c 1 0x1009c 3 64)) 8 ≡ finished (record m { output = m.output ++ hello_text }) (caller (registers 0x1008c 1 0x1009c 3 64)) 3
+write_served m s process descriptions holds =
+    let who = caller (registers 0x1008c 1 0x1009c 3 64) in
+    let open_output : description_of m 1 1 ≡ Some (record { stream = ConOut; access = 2 }) =
+    ap (λ (p : Option Process). described_in m 1 p) process ∙ ap (λ (d : Option ℕ). described_by m d) output_descriptor ∙ (λ i. get {R = nat_cmp} (descriptions i) 2) ∙ output_description in
+    ap (λ (d : Option Description). write_to m who (writable d)) open_output
+    ∙ ap (λ (p : Option Process). write_unless m who ConOut (bytes_from (memory_of (memory_in p)) 0x1009c 3) (first_fault (memory_of (memory_in p)) 1 0x1009c 3)) process
+    ∙ (λ i. write_unless m who ConOut (text_there (memory_of s) holds i) (text_readable (memory_of s) holds i))
+
+-- ---- the run
+
+module _ (x : Contents) (s : Space) (space : IsSpace s) (holds : HoldsHello (memory_of s)) where
+  abbrev begins : Mono
+  begins = begun (blank start_settings (record { turns = 0; pick = 0; random = 0 }) x) s (registers 0x10078 0 0 0 0)
+
+  abbrev at_write : Mono
+  at_write = at_trap begins s (registers 0x1008c 1 0x1009c 3 64)
+
+  abbrev has_written : Mono
+  has_written = finished (record at_write { output = x.output ++ hello_text }) (caller (registers 0x1008c 1 0x1009c 3 64)) 3
+
+  abbrev at_exit : Mono
+  at_exit = at_trap has_written s (registers 0x10098 0 0x1009c 3 93)
+
+  abbrev has_exited : Mono
+  has_exited = ended at_exit 1 0
+
+  begins_ready : IsReady begins s (registers 0x10078 0 0 0 0)
+  begins_ready = record {
+    settings = refl;
+    ready = refl;
+    thread = get_same empty 1 (first_thread (registers 0x10078 0 0 0 0));
+    process = get_same empty 1 (first_process s);
+    descriptions = refl;
+  }
+
+  first_turn : turn_of begins ≡ has_written
+  first_turn =
+      turn_trapped begins s (registers 0x10078 0 0 0 0) (registers 0x1008c 1 0x1009c 3 64) 8 0 begins_ready (run_unwritten 1000 (registers 0x10078 0 0 0 0) (registers 0x1008c 1 0x1009c 3 64) s (Some (8, 0)) space (up_to_write (memory_of s) holds))
+      ∙ write_served at_write s (get_same begins.processes 1 (first_process s)) refl holds
+
+  written_ready : IsReady has_written s (registers 0x10090 3 0x1009c 3 64)
+  written_ready = record {
+    settings = refl;
+    ready = refl;
+    thread = get_same at_write.threads 1 (first_thread (registers 0x10090 3 0x1009c 3 64));
+    process = get_same begins.processes 1 (first_process s);
+    descriptions = refl;
+  }
+
+  second_turn : turn_of has_written ≡ has_exited
+  second_turn =
+      turn_trapped has_written s (registers 0x10090 3 0x1009c 3 64) (registers 0x10098 0 0x1009c 3 93) 8 0 written_ready
+      (run_unwritten 1000 (registers 0x10090 3 0x1009c 3 64) (registers 0x10098 0 0x1009c 3 93) s (Some (8, 0)) space (up_to_exit (memory_of s) holds))
+
+  has_code : exit_code has_exited 1 ≡ Some 0
+  has_code = ap code_in (get_same at_exit.processes 1 (exited 0))
+
+  some_ready : (let ready : List ℕ = 1 ∷ [] in ready ≢ [])
+  some_ready e = cc
+
+  whole_run : run_of TURNS begins ≡ record { end = Exited 0; last = has_exited }
+  whole_run =
+      run_turn 999999 begins (ap code_in begins_ready.process) some_ready
+      ∙ ap (λ (m : Mono). run_of 999999 m) first_turn
+      ∙ run_turn 999998 has_written (ap code_in written_ready.process) some_ready
+      ∙ ap (λ (m : Mono). run_of 999998 m) second_turn
+      ∙ run_exited 999998 has_exited 0 has_code
+
+  run_says_hello : boot start_settings x (start_job hello_name) ≡ Runs begins → SaysHello x
+  run_says_hello booted = record {
+    machine = begins;
+    booted = booted;
+    ends = ap (λ (r : Ending). r.end) whole_run;
+    turns = ap (λ (r : Ending). r.last.positions.turns) whole_run;
+    output = ap (λ (r : Ending). r.last.output) whole_run;
+    errors = ap (λ (r : Ending). r.last.errors) whole_run;
+    input = ap (λ (r : Ending). r.last.input) whole_run;
+    files = ap (λ (r : Ending). r.last.files) whole_run;
+  }
+
+-- ---- the start
+
+hello_plain : is_plain hello_file ≡ true
+unfolding hello_file headers
+hello_plain = refl
+
+hello_length : length hello_file ≡ 159
+unfolding hello_file
+hello_length = refl
+
+abbrev hello_space : Space
+hello_space = begins_with hello_file (hello_name ∷ []) (omega (arith, hello_length)) (omega (arith, hello_length))
+
+hello_holds : HoldsHello (memory_of hello_space)
+hello_holds = record {
+  there = λ k h. program_there hello_file (hello_name ∷ []) (omega (arith, hello_length)) (omega (arith, hello_length)) (omega arith) k (omega (arith, hello_length));
+}
+
+hello_booted : (x : Contents) → file_of x.files hello_name ≡ Some hello_file → boot start_settings x (start_job hello_name) ≡ Runs (begins x hello_space (begins_in_space hello_file (hello_name ∷ []) (omega (arith, hello_length)) (omega (arith, hello_length))) hello_holds)
+hello_booted x there =
+    let m : Mono = blank start_settings (record { turns = 0; pick = 0; random = 0 }) x in
+    ap (λ (file : Option (List ℕ)). started_if m (hello_name ∷ []) file) there
+    ∙ ap (λ b. begun_from m (hello_name ∷ []) (if b then Some (plain_program hello_file) else None)) hello_plain
+
+-- the program's run
+pub says_hello : (x : Contents) → file_of x.files hello_name ≡ Some hello_file → SaysHello x
+says_hello x there =
+    run_says_hello x hello_space (begins_in_space hello_file (hello_name ∷ []) (omega (arith, hello_length)) (omega (arith, hello_length))) hello_holds (hello_booted x there)
