@@ -1,0 +1,5 @@
+mod Decimals
+mod Examples
+mod NumberBytes
+mod Places
+mod Spellings

@@ -1,0 +1,82 @@
+use super::*;
+use std::test::Fail;
+
+#[test]
+fn fields_in_turn(rt: HostRuntime) -> Result<(), Fail> {
+    let mut bytes = vec![in rt.alloc(); 9]?;
+    put_u64(&mut bytes, 0x0102_0304_0506_0708)?;
+    assert_eq!(rt; bytes.as_slice(), [9, 8, 7, 6, 5, 4, 3, 2, 1].as_slice());
+    bytes.extend_from_slice(b"end")?;
+    let mut cursor = Cursor::new(&bytes);
+    assert_eq!(rt; cursor.take_u8()?, 9);
+    assert_eq!(rt; cursor.take_u64()?, 0x0102_0304_0506_0708);
+    assert_eq!(rt; cursor.end(), Err(FieldError::Rest));
+    assert_eq!(rt; cursor.take_bytes(4).err(), Some(FieldError::Short));
+    assert_eq!(rt; cursor.take_u64(), Err(FieldError::Short));
+    assert_eq!(rt; cursor.take_bytes(0)?, b"".as_slice());
+    assert_eq!(rt; cursor.take_bytes(3)?, b"end".as_slice());
+    assert_eq!(rt; cursor.take_u8(), Err(FieldError::Short));
+    assert_eq!(rt; cursor.end(), Ok(()));
+    Ok(())
+}
+
+#[test]
+fn seven_bytes_are_too_few(rt: HostRuntime) -> Result<(), Fail> {
+    let mut cursor = Cursor::new(&[1, 2, 3, 4, 5, 6, 7]);
+    assert_eq!(rt; cursor.take_u64(), Err(FieldError::Short));
+    assert_eq!(rt; cursor.take_bytes(7)?, [1, 2, 3, 4, 5, 6, 7].as_slice());
+    assert_eq!(rt; cursor.end(), Ok(()));
+    Ok(())
+}
+
+#[test]
+fn numbers_as_text(rt: HostRuntime) -> Result<(), Fail> {
+    let alloc = rt.alloc();
+    let cases: [(u64, &[u8], &[u8]); 7] = [
+        (0, b"0", b"0"),
+        (9, b"9", b"9"),
+        (10, b"10", b"a"),
+        (255, b"255", b"ff"),
+        (4096, b"4096", b"1000"),
+        (1 << 63, b"9223372036854775808", b"8000000000000000"),
+        (u64::MAX, b"18446744073709551615", b"ffffffffffffffff"),
+    ];
+    for (number, decimal_digits, hexadecimal_digits) in cases {
+        assert_eq!(rt; decimal(alloc, number)?.as_slice(), decimal_digits);
+        assert_eq!(rt; hexadecimal(alloc, number)?.as_slice(), hexadecimal_digits);
+    }
+    assert_eq!(rt;
+        hex_text(alloc, &[0x00, 0x9a, 0xff])?.as_slice(),
+        b"009aff".as_slice()
+    );
+    assert_eq!(rt; hex_text(alloc, &[])?.as_slice(), b"".as_slice());
+    Ok(())
+}
+
+#[test]
+fn decimal_texts_are_read(rt: HostRuntime) {
+    let cases = [
+        ("0", Some(0)),
+        ("9", Some(9)),
+        ("10", Some(10)),
+        ("9223372036854775807", Some(0x7fff_ffff_ffff_ffff)),
+        ("9223372036854775808", None),
+        ("18446744073709551615", None),
+        ("18446744073709551616", None),
+        ("", None),
+        ("00", None),
+        ("01", None),
+        ("+1", None),
+        ("+0", None),
+        ("-1", None),
+        ("-0", None),
+        (" 1", None),
+        ("1 ", None),
+        ("0x1", None),
+        ("a", None),
+        ("\u{0661}", None),
+    ];
+    for (text, expected) in cases {
+        assert_eq!(rt; read_decimal(text), expected, "at {text}");
+    }
+}
