@@ -1,5 +1,5 @@
 -- The relation of one list of rules and the function agree, and lists in layers go one after another.
-use Rattle.std.proofs.Common.{◌≡◌, ℕ, ◌+◌, ◌<◌, ◌≤◌, ◌++◌, ◌∷◌, [], Bool, true, false, nat_eq, List, length, drop, Option, Some, None, option_map, sym, refl, ap, ◌∙◌, subst, ⊎_elim, arith, rules}
+use Rattle.std.proofs.Common.{◌≡◌, ℕ, ◌+◌, ◌<◌, ◌≤◌, ◌++◌, ◌∷◌, [], true, false, nat_eq, List, length, drop, Option, Some, None, option_map, sym, refl, ap, ◌∙◌, subst, ⊎_elim, arith, rules}
 use Rattle.std.specs.List.{starts_with}
 use Rattle.std.proofs.lemmas.Bool.{cases_Bool, false_from_ne_true, both_ways, lt-ltb, le-ltb, ne_eqb}
 use Rattle.std.proofs.lemmas.Bool.Decides.{Decides-eqb}
@@ -10,9 +10,6 @@ use Rattle.bas_names.specs.declared.Rule.{Rule}
 use Rattle.bas_names.specs.Names.{Matches, NoneMatches, IsReached, Passes, replaced, denied, kept, passed, Passed, Named, Denied, TooLong, Empty, judged, continued, sub_from, sub}
 
 -- One list
-
-tested : List ℕ → Rule → Bool
-tested name rule = starts_with nat_eq name rule.from
 
 front_of_match : (name : List ℕ) (rule : Rule) → starts_with nat_eq name rule.from ≡ true → name ≡ rule.from ++ drop (length rule.from) name
 front_of_match name rule test = (starts_is Decides-eqb name rule.from (starts_with nat_eq name rule.from) refl).0 test

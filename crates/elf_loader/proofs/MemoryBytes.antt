@@ -67,14 +67,6 @@ module _ (file memory part : List ℕ) (h : ProgramHeader) (placed : IsPlaced fi
       ∙ sym (cond-false (holds_file_byte h (start + k)) _ _ (and_right _ _ (le-ltb (start + k) (h.p_vaddr + h.p_filesz) (omega arith)))))
       (cases_lt k (at + len)))
       (cases_lt k at)
-  -- nothing of the file falls into the memory
-
-pub holds_file_byte-none : (h : ProgramHeader) (start size k : ℕ) → min (start + size) (h.p_vaddr + h.p_filesz) ≤ max start h.p_vaddr → k < size → holds_file_byte h (start + k) ≡ false
-holds_file_byte-none h start size k none within =
-    ⊎_elim
-    (λ (l : start + k < h.p_vaddr). and_left _ _ (lt-leb h.p_vaddr (start + k) l))
-    (λ (l : h.p_vaddr ≤ start + k). and_right _ _ (le-ltb (start + k) (h.p_vaddr + h.p_filesz) (omega arith)))
-    (cases_lt (start + k) h.p_vaddr)
 
 -- One segment more
 
