@@ -10,7 +10,11 @@ use std::io::ErrorKind;
 use std::process::ExitCode;
 use std::rt::Env;
 
+#[cfg(test)]
+mod counted;
 mod folder;
+#[cfg(test)]
+mod runs;
 mod streams;
 #[cfg(test)]
 mod tests;
