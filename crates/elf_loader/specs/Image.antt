@@ -1,5 +1,5 @@
 -- What an accepted file asks for in memory, as runs of pages.
-use Rattle.std.specs.Prelude.{◌≡◌, ◌≢◌, ℕ, ◌+◌, ◌-◌, ◌*◌, ◌/◌, ◌%◌, ◌^◌, ◌<◌, ◌≤◌, ◌⊎◌, ◌==◌, true, ◌&&◌, if◌then◌else◌, List, [], ◌∷◌, ◌++◌, map, length}
+use Rattle.std.specs.Prelude.{◌≡◌, ◌≢◌, ℕ, ◌+◌, ◌-◌, ◌*◌, ◌/◌, ◌%◌, ◌^◌, ◌<◌, ◌≤◌, ◌⊎◌, ◌==◌, true, ◌&&◌, if◌then◌else◌, IsOk, List, [], ◌∷◌, ◌++◌, map, length}
 use Rattle.std.specs.List.{range_with_len, AllByRecursion, sum_by}
 use Rattle.std.specs.declared.option.Option.{Option}
 use Rattle.std.specs.declared.option.Option.TheVariants.{None, Some}
@@ -50,11 +50,11 @@ unless_refused (Some error) program = Err error
 abbrev pub loaded : List ℕ → Result Program ElfError
 loaded file = unless_refused (refusal file) (program_of file)
 
--- The answer tells what comes of the file. Want of memory tells nothing.
+-- The answer tells what comes of the file. Want of memory comes only of a file that has a program.
 abbrev pub Tells : Result Program LoadError → Result Program ElfError → Type 0
 Tells (Ok program) answer = answer ≡ Ok program
 Tells (Err (Refused error)) answer = answer ≡ Err error
-Tells (Err Memory) answer = Unit {0}
+Tells (Err Memory) answer = IsOk answer
 
 -- The program, in words
 

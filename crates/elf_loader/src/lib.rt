@@ -116,7 +116,8 @@ impl From<AllocError> for LoadError {
 }
 
 /// The program of an ELF file: its runs of pages are as long as can be, rise, and hold the bytes and the rights
-/// of the segments. A file that isn't one gives the first refusal that fits, in the order of `ElfError`.
+/// of the segments. A file that isn't one gives the first refusal that fits, in the order of `ElfError`, and
+/// never `Memory`.
 pub fn load(alloc: Global, bytes: &[u8]) -> Result<Program, LoadError>
     ensures exact { Tells result (loaded bytes.now) }
     ensures accepted { OnOk result (refusal bytes.now ≡ None) }
