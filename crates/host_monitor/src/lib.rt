@@ -11,3 +11,6 @@ mod serve;
 mod streams;
 
 pub use monitor::Monitor;
+
+#[cfg(test)]
+mod tests;
