@@ -1,13 +1,13 @@
-ghost use Rattle.std.specs.Prelude.{◌≡◌, None, IfOk, OnOk, drop, string_bytes};
-ghost use Rattle.bas_edge.specs.Faults.{HasCause};
+ghost use Rattle.std.specs.Prelude.{◌≡◌, None, IfOk, drop, string_bytes};
 ghost use Rattle.percent_encoding.specs.Percent.{percent_decode};
 ghost use Rattle.bascule_main.specs.Paths.{path_of};
 
+use crate::files::{self, counted};
 use bas_edge::{EdgeError, Store};
 use percent_encoding::{NON_ALPHANUMERIC, percent_encode};
 use std::alloc::{AllocError, Global};
 use std::fs::{self, File, OpenFile, OpenOptions};
-use std::io::{self, ErrorKind, Read, Seek, SeekFrom, Write};
+use std::io::{self, Seek, SeekFrom, Write};
 use std::rt::Files;
 
 /// The folder that has the files, in the current folder.
@@ -46,34 +46,13 @@ impl<'a, R: Files> Folder<'a, R> {
             faults: 0,
         };
         let made = fs::create_dir_all(folder.runtime, FOLDER);
-        folder.counted(made)?;
+        counted(&mut folder.faults, made)?;
         Ok(folder)
     }
 
-    /// The system's answer, its error counted as a fault unless it is want of memory.
-    fn counted<T>(&mut self, answer: io::Result<T>) -> Result<T, EdgeError>
-        ensures same { OnOk result (self.new ≡ self.old) }
-        ensures cause { HasCause EdgeError.Failed self.old.faults self.new.faults result }
-    {
-        match answer {
-            Ok(value) => Ok(value),
-            Err(error) if error.kind() == ErrorKind::OutOfMemory => Err(EdgeError::Memory),
-            Err(_) => {
-                self.faults = self.faults.saturating_add(1);
-                Err(EdgeError::Failed)
-            }
-        }
-    }
-
-    /// What lies under the name and is no file is an error.
     fn length_of(&self, name: &[u8]) -> io::Result<Option<u64>> {
         let path = file_path(self.alloc, name)?;
-        match fs::metadata(self.runtime, path.as_str()) {
-            Ok(metadata) if metadata.is_file() => Ok(Some(metadata.len())),
-            Ok(_) => Err(ErrorKind::InvalidData.into()),
-            Err(error) if error.kind() == ErrorKind::NotFound => Ok(None),
-            Err(error) => Err(error),
-        }
+        files::length_of(self.runtime, path.as_str())
     }
 
     fn opened_to_write(&self, name: &[u8]) -> io::Result<R::File> {
@@ -85,9 +64,7 @@ impl<'a, R: Files> Folder<'a, R> {
 
     fn read_range(&self, name: &[u8], at: u64, buffer: &mut [u8]) -> io::Result<()> {
         let path = file_path(self.alloc, name)?;
-        let mut file = File::open(self.runtime, path.as_str())?;
-        file.seek(SeekFrom::Start(at))?;
-        file.read_exact(buffer)
+        files::read_range(self.runtime, path.as_str(), at, buffer)
     }
 
     fn write_range(&self, name: &[u8], at: u64, bytes: &[u8]) -> io::Result<()> {
@@ -125,37 +102,37 @@ impl<R: Files> Store for Folder<'_, R> {
 
     fn length(&mut self, name: &[u8]) -> Result<Option<u64>, EdgeError> {
         let length = self.length_of(name);
-        self.counted(length)
+        counted(&mut self.faults, length)
     }
 
     fn read_at(&mut self, name: &[u8], at: u64, buffer: &mut [u8]) -> Result<(), EdgeError> {
         let read = self.read_range(name, at, buffer);
-        self.counted(read)
+        counted(&mut self.faults, read)
     }
 
     fn write_at(&mut self, name: &[u8], at: u64, bytes: &[u8]) -> Result<(), EdgeError> {
         let written = self.write_range(name, at, bytes);
-        self.counted(written)
+        counted(&mut self.faults, written)
     }
 
     fn create(&mut self, name: &[u8]) -> Result<(), EdgeError> {
         let created = self.make_file(name);
-        self.counted(created)
+        counted(&mut self.faults, created)
     }
 
     fn remove(&mut self, name: &[u8]) -> Result<(), EdgeError> {
         let removed = self.remove_file(name);
-        self.counted(removed)
+        counted(&mut self.faults, removed)
     }
 
     fn rename(&mut self, from: &[u8], to: &[u8]) -> Result<(), EdgeError> {
         let renamed = self.rename_file(from, to);
-        self.counted(renamed)
+        counted(&mut self.faults, renamed)
     }
 
     fn set_length(&mut self, name: &[u8], length: u64) -> Result<(), EdgeError> {
         let resized = self.resize_file(name, length);
-        self.counted(resized)
+        counted(&mut self.faults, resized)
     }
 
     fn faults(&self) -> u64 {

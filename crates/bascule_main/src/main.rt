@@ -11,7 +11,11 @@ use std::process::ExitCode;
 use std::rt::Env;
 
 #[cfg(test)]
+mod assembling;
+#[cfg(test)]
 mod counted;
+mod current;
+mod files;
 mod folder;
 #[cfg(test)]
 mod runs;
@@ -19,6 +23,7 @@ mod streams;
 #[cfg(test)]
 mod tests;
 
+use current::CurrentFolder;
 use folder::Folder;
 use streams::{Reading, Writing};
 
@@ -40,7 +45,8 @@ fn run(rt: &HostRuntime) -> Result<Outcome, EdgeError> {
     let errors = Writing::new(rt.stderr());
     let store = Folder::new(alloc, rt)?;
     let mut host = Monitor::new(alloc, input, output, errors, store)?;
-    Ok(bascule(alloc, words.as_slice(), &mut host))
+    let mut shelf = CurrentFolder::new(rt);
+    Ok(bascule(alloc, words.as_slice(), &mut host, &mut shelf))
 }
 
 fn main(rt: HostRuntime) -> ExitCode {

@@ -4,7 +4,7 @@ ghost use Rattle.abi_calls.specs.Fresh.{IsFreshWorld};
 
 use crate::counted::Counted;
 use abi_calls::Host;
-use bas_edge::{ByteSink, CalmSink, CalmSource, MapStore, Memory, Sink, Store};
+use bas_edge::{ByteSink, CalmShelf, CalmSink, CalmSource, MapStore, Memory, Shelf, Sink, Store};
 use bascule_top::bascule;
 use host_monitor::Monitor;
 use std::alloc::{AllocError, Global};
@@ -89,14 +89,14 @@ fn host_over<O: Sink + Drop, E: Store + Drop>(
 }
 
 /// Carries out a command over a host that was not used, and gives its status.
-fn status<H: Host>(alloc: Global, words: &[String], host: &mut H) -> u8
+fn status<H: Host, F: Shelf>(alloc: Global, words: &[String], host: &mut H, shelf: &mut F) -> u8
     requires fresh { IsFreshWorld (H.objects host.old) (H.answered_count host.old) }
 {
-    bascule(alloc, words, host).code()
+    bascule(alloc, words, host, shelf).code()
 }
 
 /// The words as a program is given them.
-fn texts(alloc: Global, words: &[&str]) -> Result<Vec<String>, AllocError> {
+pub fn texts(alloc: Global, words: &[&str]) -> Result<Vec<String>, AllocError> {
     let mut texts = Vec::new(alloc);
     for word in words {
         texts.push(String::from_str(alloc, word)?)?;
@@ -138,7 +138,8 @@ fn carry_out_over<O: Sink + Drop, E: Store + Drop>(
     store: E,
 ) -> Result<(u8, MemoryHost<O, E>), Memory> {
     let mut host = host_over(alloc, output, store)?;
-    let code = status(alloc, words, &mut host);
+    let mut shelf = CalmShelf::new(alloc, Vec::new(alloc))?;
+    let code = status(alloc, words, &mut host, &mut shelf);
     Ok((code, host))
 }
 

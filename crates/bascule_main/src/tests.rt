@@ -1,7 +1,8 @@
 //! What the streams and the folder of the system do, which no clause says.
+use crate::current::CurrentFolder;
 use crate::folder::Folder;
 use crate::streams::{Reading, Writing};
-use bas_edge::{EdgeError, Failed, Sink, Source, Store};
+use bas_edge::{EdgeError, Failed, Shelf, Sink, Source, Store};
 use std::fs;
 use std::io::{self, ErrorKind, Read};
 use std::test::Fail;
@@ -102,5 +103,27 @@ fn conditions_found_untrue_are_faults(rt: HostRuntime) -> Result<(), Fail> {
     assert_eq!(rt; folder.length(b"here")?, Some(2));
     folder.remove(b"here")?;
     fs::remove_dir(&rt, "root")?;
+    Ok(())
+}
+
+#[test]
+fn files_lie_in_the_current_folder(rt: HostRuntime) -> Result<(), Fail> {
+    let mut shelf = CurrentFolder::new(&rt);
+    let name = "text.s";
+    let mut buffer = [9; 3];
+    assert_eq!(rt; shelf.length(name)?, None);
+    assert_eq!(rt; shelf.read_at(name, 0, &mut buffer), Err(EdgeError::Failed));
+    shelf.append(name, b"ab")?;
+    shelf.append(name, b"cd")?;
+    assert_eq!(rt; fs::read(&rt, name)?.as_slice(), b"abcd".as_slice());
+    assert_eq!(rt; shelf.length(name)?, Some(4));
+    shelf.read_at(name, 1, &mut buffer)?;
+    assert_eq!(rt; buffer, *b"bcd");
+    shelf.replace(name, b"xyz")?;
+    assert_eq!(rt; fs::read(&rt, name)?.as_slice(), b"xyz".as_slice());
+    assert_eq!(rt; shelf.replace("no/folder", b""), Err(EdgeError::Failed));
+    assert_eq!(rt; shelf.length("."), Err(EdgeError::Failed));
+    assert_eq!(rt; shelf.faults(), 3);
+    fs::remove_file(&rt, name)?;
     Ok(())
 }

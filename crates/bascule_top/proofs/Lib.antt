@@ -1,3 +1,4 @@
+pub mod Fetching
 pub mod Going
 pub mod Saying
 pub mod Pages

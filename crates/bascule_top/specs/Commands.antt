@@ -14,12 +14,36 @@ TURNS = 1000000
 abbrev pub is_name : List ℕ → Bool
 is_name name = nat_le 1 (length name) && nat_le (length name) 80
 
--- The one command so far: the word start, and the name of a program.
-abbrev pub command_of : List (List ℕ) → Option (List ℕ)
-command_of (word ∷ name ∷ []) = if bytes_eq word (codes "start") && is_name name then Some name else None
-command_of (word ∷ name ∷ more ∷ rest) = None
+-- A name of a file of the user's has a byte at least.
+abbrev pub is_file_name : List ℕ → Bool
+is_file_name name = nat_le 1 (length name)
+
+-- What can be asked for.
+pub data Command : Type 0 where
+  -- the program of this name is to run
+  Start : (name : List ℕ) → Command
+  -- the assembly text in the first file is to be assembled into the second
+  Asm : (text file : List ℕ) → Command
+
+-- The command that words are: the word start and the name of a program, or the word asm and two names of files.
+abbrev pub command_of : List (List ℕ) → Option Command
+command_of (word ∷ name ∷ []) = if bytes_eq word (codes "start") && is_name name then Some (Start name) else None
+command_of (word ∷ text ∷ file ∷ []) =
+    if bytes_eq word (codes "asm") && (is_file_name text && is_file_name file) then Some (Asm text file) else None
+command_of (word ∷ text ∷ file ∷ more ∷ rest) = None
 command_of (word ∷ []) = None
 command_of [] = None
+
+-- The command uses no host, and it uses no file of the user's.
+abbrev pub UsesNoHost : Option Command → Type 0
+UsesNoHost None = Unit {0}
+UsesNoHost (Some (Start name)) = ⊥
+UsesNoHost (Some (Asm text file)) = Unit {0}
+
+abbrev pub UsesNoShelf : Option Command → Type 0
+UsesNoShelf None = Unit {0}
+UsesNoShelf (Some (Start name)) = Unit {0}
+UsesNoShelf (Some (Asm text file)) = ⊥
 
 abbrev pub words_of : {A : Type 0} → List (String A) → List (List ℕ)
 words_of words = map string_bytes words

@@ -17,8 +17,8 @@ use Rattle.turn_engine.specs.WhereTold.{WhereTold, world}
 use Rattle.turn_engine.specs.Serves.{IsUp}
 use Rattle.turn_engine.specs.Halts.{IsUnwritten, FrontsRun}
 use Rattle.bascule_top.specs.declared.outcome.Outcome.{Outcome}
-use Rattle.bascule_top.specs.declared.outcome.Outcome.TheVariants.{Exited, Bound, NoProgram, BadProgram, BadWords, HostFault, OutOfMemory}
-use Rattle.bascule_top.specs.Commands.{TURNS, start_settings, start_job}
+use Rattle.bascule_top.specs.declared.outcome.Outcome.TheVariants.{Exited, Done, Bound, NoProgram, BadProgram, BadWords, NoFile, Large, BadText, HostFault, ShelfFault, OutOfMemory}
+use Rattle.bascule_top.specs.Commands.{Command, Start, Asm, TURNS, start_settings, start_job}
 
 -- A world agrees with the machine where some records, which fit its objects, name that machine in it: its processes,
 -- threads, open descriptions, ready threads and positions, and its files, input, output and errors.
@@ -59,7 +59,12 @@ Says (Exited code) name told o' told' = WhereTold told told' (RunsTo name (mono.
 Says (Bound turns) name told o' told' = (turns ≡ TURNS) × (o'.positions.turns ≡ TURNS) × WhereTold told told' (RunsTo name mono.Bound o')
 Says (NoProgram named) name told o' told' = (named ≡ name) × WhereTold told told' (λ x y. (file_of x.files name ≡ None) × (y ≡ x))
 Says (BadProgram cause) name told o' told' = WhereTold told told' (λ x y. IsNoProgram name x × (y ≡ x))
+Says (Done report) name told o' told' = ⊥
 Says BadWords name told o' told' = ⊥
+Says (NoFile named) name told o' told' = ⊥
+Says (Large named) name told o' told' = ⊥
+Says (BadText line cause) name told o' told' = ⊥
+Says ShelfFault name told o' told' = ⊥
 Says HostFault name told o' told' = Stops name told told'
 Says OutOfMemory name told o' told' = Stops name told told'
 
@@ -69,11 +74,18 @@ IsOfRun (Exited code) = Unit {0}
 IsOfRun (Bound turns) = Unit {0}
 IsOfRun (NoProgram named) = Unit {0}
 IsOfRun (BadProgram cause) = Unit {0}
+IsOfRun (Done report) = Unit {0}
 IsOfRun BadWords = Unit {0}
+IsOfRun (NoFile named) = Unit {0}
+IsOfRun (Large named) = Unit {0}
+IsOfRun (BadText line cause) = Unit {0}
+IsOfRun ShelfFault = Unit {0}
 IsOfRun HostFault = ⊥
 IsOfRun OutOfMemory = ⊥
 
--- Words that are no command are refused, and nothing is done; a start says what its outcome says.
-abbrev pub Headline : Outcome → Option (List ℕ) → Objects → Told → Objects → Told → Type 0
+-- Words that are no command are refused, and nothing is done; a start says what its outcome says; `asm` doesn't use the
+-- host.
+abbrev pub Headline : Outcome → Option Command → Objects → Told → Objects → Told → Type 0
 Headline outcome None o told o' told' = (outcome ≡ BadWords) × (o' ≡ o) × (told' ≡ told)
-Headline outcome (Some name) o told o' told' = Says outcome name told o' told'
+Headline outcome (Some (Start name)) o told o' told' = Says outcome name told o' told'
+Headline outcome (Some (Asm text file)) o told o' told' = (o' ≡ o) × (told' ≡ told)

@@ -3,12 +3,22 @@ ghost use Rattle.bascule_top.specs.Status.{status_of};
 
 use bas_items::Items;
 use libos_state::ElfError;
+use rv_asm::AsmCause;
+
+/// What a command that runs no program has done.
+#[derive(Clone, Copy, Debug, PartialEq, Eq)]
+pub enum Report {
+    /// A file of so many bytes was assembled.
+    Assembled(u64),
+}
 
 /// How a command ended.
 #[derive(Debug, Drop)]
 pub enum Outcome {
     /// Process 1 has exited with this code.
     Exited(u8),
+    /// A command that runs no program is done.
+    Done(Report),
     /// So many turns were made, and process 1 has not exited.
     Bound(u64),
     /// The program of this name can't be opened.
@@ -17,8 +27,16 @@ pub enum Outcome {
     BadProgram(ElfError),
     /// The words are no command.
     BadWords,
+    /// The user has no file of this name.
+    NoFile(Items<u8>),
+    /// The file of this name is past its limit.
+    Large(Items<u8>),
+    /// The assembler refuses this line of the text, counted from 1.
+    BadText(u64, AsmCause),
     /// The outside of the host failed.
     HostFault,
+    /// The outside that has the user's files failed.
+    ShelfFault,
     /// There was no memory.
     OutOfMemory,
 }
@@ -30,11 +48,16 @@ impl Outcome {
     {
         match self {
             Outcome::Exited(code) => *code,
+            Outcome::Done(_) => 0,
             Outcome::Bound(_) => 230,
             Outcome::BadWords => 233,
+            Outcome::NoFile(_) => 234,
+            Outcome::Large(_) => 235,
             Outcome::NoProgram(_) => 239,
             Outcome::BadProgram(_) => 240,
+            Outcome::BadText(_, _) => 244,
             Outcome::HostFault => 246,
+            Outcome::ShelfFault => 247,
             Outcome::OutOfMemory => 249,
         }
     }

@@ -1,35 +1,22 @@
-ghost use Rattle.std.specs.Prelude.{◌≡◌, ◌≢◌, None, Some, true, IfOk, MatchOption, OnErr};
+ghost use Rattle.std.specs.Prelude.{◌≡◌, ◌≢◌, None, Some, true, IfOk, OnErr};
 ghost use Rattle.bas_edge.specs.Faults.{HasCause, Rose};
 ghost use Rattle.abi_calls.specs.Fresh.{IsFreshWorld};
-ghost use Rattle.bascule_top.specs.Commands.{command_of, words_of, is_name, start_settings};
+ghost use Rattle.bascule_top.specs.Assembly.{Assembly};
+ghost use Rattle.bascule_top.specs.Commands.{UsesNoHost, UsesNoShelf, command_of, words_of, is_name, start_settings};
 ghost use Rattle.bascule_top.specs.declared.outcome.Outcome.TheVariants.{NoProgram};
 ghost use Rattle.bascule_top.specs.Outcomes.{Headline, Says, Stops, IsOfRun};
 
+use crate::assembly::assemble_file;
+use crate::command::{Command, read_command};
 use crate::outcome::Outcome;
 use crate::run::{TURNS, run};
 use abi_calls::{Host, Settings};
-use bas_edge::Memory;
+use bas_edge::{EdgeError, Memory, Shelf};
 use bas_items::Items;
 use libos_calls::{boot, booted};
 use libos_state::Boot;
 use std::alloc::Global;
 use turn_engine::{EngineError, Machine};
-
-/// The most bytes of a name.
-const LONGEST_NAME: usize = 80;
-
-/// The program that a command starts; `None` where the words are no command.
-fn program_of_command(words: &[String]) -> Option<&[u8]>
-    ensures { MatchOption result (command_of (words_of words.now) ≡ None) (λ name. command_of (words_of words.now) ≡ Some name.now) }
-{
-    match words {
-        [word, name]
-            if word.as_bytes() == b"start".as_slice()
-                && !name.is_empty()
-                && name.len() <= LONGEST_NAME => { Some(name.as_bytes()) }
-        _ => None,
-    }
-}
 
 /// The settings of a start.
 fn settings_of_start(alloc: Global) -> Settings
@@ -75,26 +62,43 @@ fn start<H: Host>(alloc: Global, name: &[u8], host: &mut H) -> Result<Outcome, E
     }
 }
 
-/// Carries out the command that the words are, over a host that was not used.
+/// Carries out the command that the words are, over a host that was not used and the user's files.
 ///
-/// The one command so far is `start NAME`: the program of this name, 1 to 80 bytes, runs with its name as its one
-/// argument, for at most 1,000,000 turns of at most 1,000 instructions each.
+/// `start NAME`: the program of this name, 1 to 80 bytes, runs with its name as its one argument, for at most
+/// 1,000,000 turns of at most 1,000 instructions each. Where the host tells its contents, the outcome is that of the
+/// monolithic machine's run over them, its files, output and errors are those of the run's last state, and its world
+/// agrees with that state. `HostFault` comes only where the host's count of faults rose; `OutOfMemory` may come in place
+/// of any other outcome of a start. After either, what the program wrote is a front of what the machine wrote after
+/// some number of turns, and the host is used no more.
 ///
-/// Where the host tells its contents, the outcome is that of the monolithic machine's run over them, its files, output
-/// and errors are those of the run's last state, and its world agrees with that state. `HostFault` comes only where
-/// the host's count of faults rose; `OutOfMemory` may come in place of any other outcome of a start. After either, what
-/// the program wrote is a front of what the machine wrote after some number of turns, and the host is used no more.
-pub fn bascule<H: Host>(alloc: Global, words: &[String], host: &mut H) -> Outcome
+/// `asm TEXT FILE`: the assembly text in the user's file TEXT, of at most 1 MiB, is assembled, and the user's file FILE
+/// is replaced by the executable file. `ShelfFault` comes only where the shelf's count of faults rose, and
+/// `OutOfMemory` may come in place of any other outcome; after all but `Done` the files are as before.
+pub fn bascule<H: Host, F: Shelf>(
+    alloc: Global,
+    words: &[String],
+    host: &mut H,
+    shelf: &mut F,
+) -> Outcome
     requires fresh { IsFreshWorld (H.objects host.old) (H.answered_count host.old) }
     ensures headline { Headline result (command_of (words_of words.now)) (H.objects host.old) (H.told host.old) (H.objects host.new) (H.told host.new) }
     ensures fault { result ≡ Outcome.HostFault → Rose (H.fault_count host.old) (H.fault_count host.new) }
+    ensures assembly { Assembly result (command_of (words_of words.now)) (F.files shelf.old) (F.files shelf.new) }
+    ensures shelf_fault { result ≡ Outcome.ShelfFault → Rose (F.fault_count shelf.old) (F.fault_count shelf.new) }
+    ensures host_unused { UsesNoHost (command_of (words_of words.now)) → host.new ≡ host.old }
+    ensures shelf_unused { UsesNoShelf (command_of (words_of words.now)) → shelf.new ≡ shelf.old }
 {
-    let Some(name) = program_of_command(words) else {
-        return Outcome::BadWords;
-    };
-    match start(alloc, name, host) {
-        Ok(outcome) => outcome,
-        Err(EngineError::Failed) => Outcome::HostFault,
-        Err(EngineError::Memory) => Outcome::OutOfMemory,
+    match read_command(words) {
+        None => Outcome::BadWords,
+        Some(Command::Start { name }) => match start(alloc, name.as_bytes(), host) {
+            Ok(outcome) => outcome,
+            Err(EngineError::Failed) => Outcome::HostFault,
+            Err(EngineError::Memory) => Outcome::OutOfMemory,
+        },
+        Some(Command::Asm { text, file }) => match assemble_file(alloc, text, file, shelf) {
+            Ok(answer) => answer,
+            Err(EdgeError::Failed) => Outcome::ShelfFault,
+            Err(EdgeError::Memory) => Outcome::OutOfMemory,
+        },
     }
 }
