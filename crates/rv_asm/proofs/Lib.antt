@@ -1,0 +1,7 @@
+pub mod LabelLists
+pub mod LineLists
+pub mod OperandLists
+pub mod ProgramLists
+pub mod RegisterLists
+pub mod TextLists
+pub mod Utf8
