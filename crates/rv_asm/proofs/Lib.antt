@@ -1,0 +1,8 @@
+pub mod LabelLists
+pub mod LineLists
+pub mod NumberLists
+pub mod OperandLists
+pub mod ProgramLists
+pub mod RegisterLists
+pub mod TextLists
+pub mod Utf8

@@ -1,0 +1,6 @@
+use Rattle.std.proofs.Common.{arith}
+use Rattle.std.proofs.lemmas.Int.{ints, to_z-of_z}
+use Rattle.rv_asm.proofs.encoding.high_part.Goals as goal
+
+pub returns : goal.returns
+returns c = search (arith, ints, to_z-of_z, c.residue.ensures)

@@ -1,0 +1,17 @@
+use Rattle.std.proofs.Common.{◌≡◌, ◌≤◌, ◌+◌, ℕ, List, length}
+use Rattle.rv_asm.specs.Text.{lines, lines_left}
+use Rattle.rv_asm.specs.Labels.{defined, otherwise}
+use Rattle.rv_asm.specs.Encoding.{base}
+use Rattle.rv_asm.specs.Program.{definition_in}
+use Rattle.rv_asm.proofs.TextLists.{bytes_left}
+use Rattle.rv_asm.proofs.program.define_labels.Given as goal
+
+abbrev pub invariant-loop-rest : goal.invariant-loop-rest
+invariant-loop-rest l = record {
+  labels : (name : List ℕ) → definition_in 1 base (lines l.fn.text) name
+      ≡ otherwise (defined l.labels name) (definition_in l.number l.address (lines_left l.rest) name);
+  counted : l.number + bytes_left l.rest ≤ length l.fn.text + 2;
+}
+
+abbrev pub decreases-loop-rest : goal.decreases-loop-rest
+decreases-loop-rest l = bytes_left l.rest

@@ -1,0 +1,341 @@
+ghost use Rattle.std.specs.Prelude.{◌≡◌, ◌≤◌, ◌<◌, ◌+◌, ◌-◌, ◌^◌, ◌++◌, min, pos, negsuc, ◌≤ℤ◌, IfOk, OnOk, replicate, length};
+ghost use Rattle.std.specs.List.{flat_map, list_all};
+ghost use Rattle.rv_asm.specs.Encoding.{farthest, base, behind, width_size, width_half, fits_width, is_short, padding, statement_size, residue, low_part, high_part, word, one, two, distance, upper_words, number_words, branch_words, jump_words, address_words, empty_if, words_of, words_bytes, number_bytes, data_of, bytes_of, HasAppended};
+ghost use Rattle.rv_asm.specs.Labels.{defined};
+
+use crate::AsmCause;
+use crate::labels::{Definition, Labels};
+use crate::operands::immediate;
+use crate::statement::{Statement, Width, plain};
+use crate::text::before;
+use rv_core::{Instr, Op, encode};
+use std::alloc::AllocError;
+
+/// The address of the first byte behind the headers.
+pub const BASE: u64 = 0x10078;
+
+/// The greatest address that the bytes may end at.
+const LIMIT: u64 = BASE + (1 << 20);
+
+/// The words of an instruction, or of two.
+#[derive(Clone, Copy)]
+pub enum Words {
+    Empty,
+    One(u32),
+    Two(u32, u32),
+}
+
+/// The address behind so many bytes.
+pub fn address_behind(at: u64, size: u64) -> u64
+    ensures { result ≡ behind at size }
+{
+    at.saturating_add(size)
+}
+
+impl Width {
+    fn size(self) -> usize
+        ensures { result ≡ width_size self }
+    {
+        match self {
+            Width::Byte => 1,
+            Width::Word => 4,
+            Width::Dword => 8,
+        }
+    }
+
+    /// Whether the number fits, with a sign or without.
+    fn fits(self, number: i128) -> bool
+        ensures { result ≡ fits_width self number }
+    {
+        let half: i128 = match self {
+            Width::Byte => 1 << 7,
+            Width::Word => 1 << 31,
+            Width::Dword => 1 << 63,
+        };
+        -half <= number && number < 2 * half
+    }
+}
+
+/// Whether ADDI can add the number.
+fn is_short(number: i128) -> bool
+    ensures { result ≡ is_short number }
+{
+    -2048 <= number && number < 2048
+}
+
+/// How many zeros there are up to a multiple of 2^`n`.
+fn padding(at: u64, n: u64) -> u64
+    requires { n < 13 }
+    ensures { result ≡ padding at n }
+{
+    let multiple = 1u64 << n;
+    (multiple - at % multiple) % multiple
+}
+
+/// The number modulo twice `half`, from minus `half` on.
+fn residue(half: u32, number: i128) -> i64
+    requires low { 0 < half }
+    requires high { half ≤ 2 ^ 31 }
+    ensures value { result ≡ residue half number }
+    ensures lower { negsuc (2 ^ 31) ≤ℤ result }
+    ensures upper { result ≤ℤ pos (2 ^ 31) }
+{
+    let half = i128::from(half);
+    let whole = half + half;
+    let rest = number.rem_euclid(whole);
+    if rest < half {
+        rest as i64
+    } else {
+        (rest - whole) as i64
+    }
+}
+
+fn word(instr: &Instr) -> Result<u32, AsmCause>
+    ensures { result ≡ word instr.now }
+{
+    encode(instr).ok_or(AsmCause::Range)
+}
+
+fn one(instr: &Instr) -> Result<Words, AsmCause>
+    ensures { result ≡ one instr.now }
+{
+    Ok(Words::One(word(instr)?))
+}
+
+fn two(first: &Instr, second: &Instr) -> Result<Words, AsmCause>
+    ensures { result ≡ two first.now second.now }
+{
+    let first = word(first)?;
+    let second = word(second)?;
+    Ok(Words::Two(first, second))
+}
+
+fn low_part(number: i128) -> i64
+    ensures value { result ≡ low_part number }
+    ensures lower { negsuc (2 ^ 31) ≤ℤ result }
+    ensures upper { result ≤ℤ pos (2 ^ 31) }
+{
+    residue(1 << 11, number)
+}
+
+fn high_part(number: i128) -> i64
+    requires low { negsuc (2 ^ 64) ≤ℤ number }
+    requires high { number ≤ℤ pos (2 ^ 64) }
+    ensures { result ≡ high_part number }
+{
+    residue(1 << 31, number - i128::from(low_part(number)))
+}
+
+/// How far a label is from `at`.
+fn distance(found: Option<Definition>, at: u64) -> Result<i128, AsmCause>
+    ensures value { result ≡ distance found at }
+    ensures low { IfOk result (λ d. negsuc (2 ^ 64) ≤ℤ d) }
+    ensures high { IfOk result (λ d. d ≤ℤ pos (2 ^ 64)) }
+{
+    let definition = found.ok_or(AsmCause::Label)?;
+    Ok(i128::from(definition.address) - i128::from(at))
+}
+
+/// LUI or AUIPC with the number of a page.
+fn upper(op: Op, rd: u8, page: i128) -> Result<Words, AsmCause>
+    ensures { result ≡ upper_words op rd page }
+{
+    if page < 0 || page >= 1 << 20 {
+        return Err(AsmCause::Range);
+    }
+    let imm = residue(1 << 31, page * (1 << 12));
+    one(&plain(op, rd, 0, 0, imm))
+}
+
+/// The instructions by which a register gets a number.
+fn load_number(rd: u8, number: i128) -> Result<Words, AsmCause>
+    ensures { result ≡ number_words rd number }
+{
+    if is_short(number) {
+        return one(&plain(Op::Addi, rd, 0, 0, number as i64));
+    }
+    if number < -(1 << 31) || number >= 1 << 31 {
+        return Err(AsmCause::Range);
+    }
+    two(
+        &plain(Op::Lui, rd, 0, 0, high_part(number)),
+        &plain(Op::Addiw, rd, rd, 0, low_part(number)),
+    )
+}
+
+/// A branch to a label.
+fn branch(op: Op, rs1: u8, rs2: u8, found: Option<Definition>, at: u64) -> Result<Words, AsmCause>
+    ensures { result ≡ branch_words op rs1 rs2 found at }
+{
+    let distance = distance(found, at)?;
+    one(&plain(op, 0, rs1, rs2, immediate(distance)))
+}
+
+/// A jump to a label.
+fn jump(rd: u8, found: Option<Definition>, at: u64) -> Result<Words, AsmCause>
+    ensures { result ≡ jump_words rd found at }
+{
+    let distance = distance(found, at)?;
+    one(&plain(Op::Jal, rd, 0, 0, immediate(distance)))
+}
+
+/// The instructions by which a register gets the address of a label.
+fn load_address(rd: u8, found: Option<Definition>, at: u64) -> Result<Words, AsmCause>
+    ensures { result ≡ address_words rd found at }
+{
+    let distance = distance(found, at)?;
+    two(
+        &plain(Op::Auipc, rd, 0, 0, high_part(distance)),
+        &plain(Op::Addi, rd, rd, 0, low_part(distance)),
+    )
+}
+
+/// No words, where the values of data fit.
+fn empty_if(fits: bool) -> Result<Words, AsmCause>
+    ensures { result ≡ empty_if fits }
+{
+    if fits {
+        Ok(Words::Empty)
+    } else {
+        Err(AsmCause::Range)
+    }
+}
+
+fn all_fit(width: Width, numbers: &[i128]) -> bool
+    ensures { result ≡ list_all (fits_width width) numbers.now }
+{
+    numbers.iter().all(|number| width.fits(*number))
+}
+
+impl Words {
+    /// Appends the bytes of the words.
+    fn append_to(self, out: &mut Vec<u8>) -> Result<(), AllocError>
+        ensures { OnOk result (out.new.items ≡ out.old.items ++ words_bytes self) }
+    {
+        match self {
+            Words::Empty => Ok(()),
+            Words::One(word) => out.extend_from_slice(word.to_le_bytes().as_slice()),
+            Words::Two(first, second) => {
+                out.extend_from_slice(first.to_le_bytes().as_slice())?;
+                out.extend_from_slice(second.to_le_bytes().as_slice())
+            }
+        }
+    }
+}
+
+/// Appends so many zeros.
+fn append_zeros(count: u64, out: &mut Vec<u8>) -> Result<(), AllocError>
+    ensures { OnOk result (out.new.items ≡ out.old.items ++ replicate count 0) }
+{
+    for _ in 0..count {
+        out.push(0)?;
+    }
+    Ok(())
+}
+
+/// Appends the low bytes of the number in two's complement.
+fn append_number(width: Width, number: i128, out: &mut Vec<u8>) -> Result<(), AllocError>
+    ensures { OnOk result (out.new.items ≡ out.old.items ++ number_bytes width number) }
+{
+    let bytes = number.to_le_bytes();
+    out.extend_from_slice(before(bytes.as_slice(), width.size()))
+}
+
+/// Appends the bytes of the numbers.
+fn append_numbers(width: Width, numbers: &[i128], out: &mut Vec<u8>) -> Result<(), AllocError>
+    ensures { OnOk result (out.new.items ≡ out.old.items ++ flat_map (number_bytes width) numbers.now) }
+{
+    for number in numbers {
+        append_number(width, *number, out)?;
+    }
+    Ok(())
+}
+
+impl Statement<'_> {
+    /// How many bytes it takes at an address, or the greatest that counts.
+    pub fn size(&self, at: u64) -> u64
+        ensures { result ≡ min farthest (statement_size at self.now) }
+    {
+        match self {
+            Statement::Plain(_)
+            | Statement::Upper(_, _, _)
+            | Statement::Branch(_, _, _, _)
+            | Statement::Jump(_, _) => 4,
+            Statement::LoadNumber(_, number) => { if is_short(*number) { 4 } else { 8 } }
+            Statement::LoadAddress(_, _) => 8,
+            Statement::Bytes(bytes) => bytes.len() as u64,
+            Statement::Numbers(width, numbers) => {
+                (width.size() as u64).saturating_mul(numbers.len() as u64)
+            }
+            Statement::Zeros(count) => (*count).clamp(0, i128::from(u64::MAX)) as u64,
+            Statement::Align(n) => {
+                if *n < 0 || *n >= 13 {
+                    return 0;
+                }
+                padding(at, *n as u64)
+            }
+        }
+    }
+
+    /// The words of its instructions, or the first cause for which its labels and values refuse it.
+    #[tactic(auto, unfolding(crate::specs::Encoding::words_of))]
+    fn words(&self, labels: &Labels, at: u64) -> Result<Words, AsmCause>
+        ensures { result ≡ words_of (defined labels.now) at self.now }
+    {
+        match self {
+            Statement::Plain(instr) => one(instr),
+            Statement::Upper(op, rd, page) => upper(*op, *rd, *page),
+            Statement::Branch(op, rs1, rs2, label) => {
+                branch(*op, *rs1, *rs2, labels.get(label), at)
+            }
+            Statement::Jump(rd, label) => jump(*rd, labels.get(label), at),
+            Statement::LoadNumber(rd, number) => load_number(*rd, *number),
+            Statement::LoadAddress(rd, label) => load_address(*rd, labels.get(label), at),
+            Statement::Bytes(_) => Ok(Words::Empty),
+            Statement::Numbers(width, numbers) => empty_if(all_fit(*width, numbers.as_slice())),
+            Statement::Zeros(count) => empty_if(*count >= 0),
+            Statement::Align(n) => empty_if(0 <= *n && *n < 13),
+        }
+    }
+
+    /// Appends the bytes that aren't instructions.
+    #[tactic(auto, unfolding(crate::specs::Encoding::data_of))]
+    fn append_data(&self, at: u64, out: &mut Vec<u8>) -> Result<(), AllocError>
+        requires { statement_size at self.now < farthest }
+        ensures { OnOk result (out.new.items ≡ out.old.items ++ data_of at self.now) }
+    {
+        match self {
+            Statement::Bytes(bytes) => out.extend_from_slice(bytes.as_slice()),
+            Statement::Numbers(width, numbers) => append_numbers(*width, numbers.as_slice(), out),
+            Statement::Zeros(_) | Statement::Align(_) => append_zeros(self.size(at), out),
+            Statement::Plain(_)
+            | Statement::Upper(_, _, _)
+            | Statement::Branch(_, _, _, _)
+            | Statement::Jump(_, _)
+            | Statement::LoadNumber(_, _)
+            | Statement::LoadAddress(_, _) => Ok(()),
+        }
+    }
+
+    /// Appends its bytes, or gives the first cause for which its labels, values and size refuse it.
+    #[tactic(auto, unfolding(crate::specs::Encoding::bytes_of))]
+    pub fn append(
+        &self,
+        labels: &Labels,
+        at: u64,
+        out: &mut Vec<u8>,
+    ) -> Result<Result<(), AsmCause>, AllocError>
+        ensures { IfOk result (HasAppended (bytes_of (defined labels.now) at self.now) out.old.items out.new.items) }
+    {
+        let words = match self.words(labels, at) {
+            Ok(words) => words,
+            Err(cause) => return Ok(Err(cause)),
+        };
+        if address_behind(at, self.size(at)) > LIMIT {
+            return Ok(Err(AsmCause::Big));
+        }
+        words.append_to(out)?;
+        self.append_data(at, out)?;
+        Ok(Ok(()))
+    }
+}

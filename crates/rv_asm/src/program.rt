@@ -1,0 +1,101 @@
+ghost use Rattle.std.specs.Prelude.{◌≡◌, ◌≢◌, ◌∷◌, ◌<◌, ◌≤◌, List, ℕ, Ok, Err, IfOk, OnOk, MatchResult, MatchOption, length};
+ghost use Rattle.rv_asm.specs.declared.AsmError.TheVariants.{Memory};
+ghost use Rattle.rv_asm.specs.Text.{lines, lines_left};
+ghost use Rattle.rv_asm.specs.Labels.{defined, otherwise, own_definition};
+ghost use Rattle.rv_asm.specs.Encoding.{base, HasPlaced};
+ghost use Rattle.rv_asm.specs.Line.{read, line_end, line_bytes};
+ghost use Rattle.rv_asm.specs.Program.{definition_in, outcomes_in, gathered};
+
+use crate::encoding::BASE;
+use crate::labels::Labels;
+use crate::line::read;
+use crate::text::{before, behind, first_place};
+use crate::{AsmCause, AsmError};
+use std::alloc::{AllocError, Global};
+
+/// The first line of the text, and what stands behind its line feed.
+fn split_line(text: &[u8]) -> (&[u8], Option<&[u8]>)
+    ensures lines { lines text.now ≡ result.0.now ∷ lines_left result.1 }
+    ensures shorter { MatchOption result.1 (length result.0.now ≤ length text.now) (λ rest. length rest.now < length text.now) }
+{
+    let end = first_place(text, b'\n');
+    if end == text.len() {
+        return (text, None);
+    }
+    (before(text, end), Some(behind(text, end)))
+}
+
+/// Adds the definition of the line's label, and gives the address behind the line.
+fn define_line<'a>(
+    alloc: Global,
+    line: &'a [u8],
+    number: u64,
+    address: u64,
+    labels: &mut Labels<'a>,
+) -> Result<u64, AllocError>
+    ensures labels { OnOk result ((name : List ℕ) → defined labels.new name
+        ≡ otherwise (defined labels.old name) (own_definition number address (read line.now).label name)) }
+    ensures address { IfOk result (λ next. next ≡ line_end address (read line.now)) }
+{
+    let said = read(alloc, line)?;
+    said.define(number, address, labels)?;
+    Ok(said.end(address))
+}
+
+/// The first definition of each label of the text.
+pub fn define_labels<'a>(alloc: Global, text: &'a [u8]) -> Result<Labels<'a>, AllocError>
+    ensures { IfOk result (λ labels. (name : List ℕ) → defined labels name ≡ definition_in 1 base (lines text.now) name) }
+{
+    let mut labels = Labels::new(alloc);
+    let mut address = BASE;
+    let mut number = 1;
+    let mut rest = Some(text);
+    while let Some(text) = rest {
+        let (line, more) = split_line(text);
+        address = define_line(alloc, line, number, address, &mut labels)?;
+        number += 1;
+        rest = more;
+    }
+    Ok(labels)
+}
+
+/// Appends the bytes of the line and gives the address behind it, or the first cause for which it is refused.
+fn append_line<'a>(
+    alloc: Global,
+    line: &'a [u8],
+    number: u64,
+    address: u64,
+    labels: &Labels<'a>,
+    bytes: &mut Vec<u8>,
+) -> Result<Result<u64, AsmCause>, AllocError>
+    ensures { IfOk result (HasPlaced (line_bytes (defined labels.now) number address (read line.now))
+        (line_end address (read line.now)) bytes.old.items bytes.new.items) }
+{
+    let said = read(alloc, line)?;
+    match said.append(labels, number, address, bytes)? {
+        Ok(()) => Ok(Ok(said.end(address))),
+        Err(cause) => Ok(Err(cause)),
+    }
+}
+
+/// The bytes of the text under its labels, or the first line that is refused.
+pub fn bytes_of<'a>(alloc: Global, text: &'a [u8], labels: &Labels<'a>) -> Result<Vec<u8>, AsmError>
+    ensures { MatchResult result
+        (λ v. gathered 1 (outcomes_in (defined labels.now) 1 base (lines text.now)) ≡ Ok v.items)
+        (λ error. (error ≢ Memory) → gathered 1 (outcomes_in (defined labels.now) 1 base (lines text.now)) ≡ Err error) }
+{
+    let mut bytes = Vec::new(alloc);
+    let mut address = BASE;
+    let mut number = 1;
+    let mut rest = Some(text);
+    while let Some(text) = rest {
+        let (line, more) = split_line(text);
+        match append_line(alloc, line, number, address, labels, &mut bytes)? {
+            Ok(next) => address = next,
+            Err(cause) => return Err(AsmError::Line(number, cause)),
+        }
+        number += 1;
+        rest = more;
+    }
+    Ok(bytes)
+}
