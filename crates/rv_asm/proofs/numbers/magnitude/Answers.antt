@@ -1,4 +1,4 @@
-use Rattle.std.proofs.Common.{◌≡◌, ◌<◌, sym, ◌∙◌, arith}
+use Rattle.std.proofs.Common.{◌<◌, sym, ◌∙◌, arith}
 use Rattle.rv_asm.proofs.NumberLists.{counted-magnitude}
 use Rattle.rv_asm.proofs.numbers.magnitude.Goals as goal
 
