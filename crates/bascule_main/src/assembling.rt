@@ -1,8 +1,7 @@
 //! The command `asm`, over files in memory.
-use crate::runs::texts;
-use bas_edge::{CalmSink, CalmSource, CalmStore, MapShelf, Shelf};
-use bascule_top::{Outcome, Report, bascule};
-use host_monitor::Monitor;
+use crate::runs::{carry_out_over, texts};
+use bas_edge::{CalmSink, CalmStore, MapShelf, Shelf};
+use bascule_top::{Outcome, Report};
 use rv_asm::AsmCause;
 use std::alloc::Global;
 use std::test::Fail;
@@ -32,16 +31,10 @@ fn shelf_of(alloc: Global, text: Vec<u8>, failing: Vec<u64>) -> Result<MapShelf,
 /// Carries out `asm TEXT hi` over these files, and a host that was not used and has none.
 fn assembled<F: Shelf>(alloc: Global, text: &str, shelf: &mut F) -> Result<Outcome, Fail> {
     let words = texts(alloc, &["asm", text, "hi"])?;
+    let output = CalmSink::new(alloc);
     let store = CalmStore::new(alloc, Vec::new(alloc))?;
-    let input = CalmSource::new(Vec::new(alloc));
-    let mut host = Monitor::new(
-        alloc,
-        input,
-        CalmSink::new(alloc),
-        CalmSink::new(alloc),
-        store,
-    )?;
-    Ok(bascule(alloc, words.as_slice(), &mut host, shelf))
+    let (outcome, _host) = carry_out_over(alloc, words.as_slice(), output, store, shelf)?;
+    Ok(outcome)
 }
 
 #[test]

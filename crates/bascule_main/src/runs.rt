@@ -5,7 +5,7 @@ ghost use Rattle.abi_calls.specs.Fresh.{IsFreshWorld};
 use crate::counted::Counted;
 use abi_calls::Host;
 use bas_edge::{ByteSink, CalmShelf, CalmSink, CalmSource, MapStore, Memory, Shelf, Sink, Store};
-use bascule_top::bascule;
+use bascule_top::{Outcome, bascule};
 use host_monitor::Monitor;
 use std::alloc::{AllocError, Global};
 use std::test::Fail;
@@ -70,7 +70,7 @@ const CALM: Failing = Failing {
 };
 
 /// The host that the commands of these tests run over.
-type MemoryHost<O, E> = Counted<Monitor<CalmSource, O, CalmSink, E>>;
+pub type MemoryHost<O, E> = Counted<Monitor<CalmSource, O, CalmSink, E>>;
 
 /// A host that was not used, over no input.
 fn host_over<O: Sink + Drop, E: Store + Drop>(
@@ -88,11 +88,16 @@ fn host_over<O: Sink + Drop, E: Store + Drop>(
     })
 }
 
-/// Carries out a command over a host that was not used, and gives its status.
-fn status<H: Host, F: Shelf>(alloc: Global, words: &[String], host: &mut H, shelf: &mut F) -> u8
+/// Carries out a command over a host that was not used.
+fn carried_out<H: Host, F: Shelf>(
+    alloc: Global,
+    words: &[String],
+    host: &mut H,
+    shelf: &mut F,
+) -> Outcome
     requires fresh { IsFreshWorld (H.objects host.old) (H.answered_count host.old) }
 {
-    bascule(alloc, words, host, shelf).code()
+    bascule(alloc, words, host, shelf)
 }
 
 /// The words as a program is given them.
@@ -131,16 +136,16 @@ fn seen(alloc: Global, code: u8, host: &MemoryHost<ByteSink, MapStore>) -> Resul
 }
 
 /// Carries out a command over a host that was not used, and gives the host back.
-fn carry_out_over<O: Sink + Drop, E: Store + Drop>(
+pub fn carry_out_over<O: Sink + Drop, E: Store + Drop, F: Shelf>(
     alloc: Global,
     words: &[String],
     output: O,
     store: E,
-) -> Result<(u8, MemoryHost<O, E>), Memory> {
+    shelf: &mut F,
+) -> Result<(Outcome, MemoryHost<O, E>), Memory> {
     let mut host = host_over(alloc, output, store)?;
-    let mut shelf = CalmShelf::new(alloc, Vec::new(alloc))?;
-    let code = status(alloc, words, &mut host, &mut shelf);
-    Ok((code, host))
+    let outcome = carried_out(alloc, words, &mut host, shelf);
+    Ok((outcome, host))
 }
 
 /// Carries out a command where `/bin/hi` is this file.
@@ -149,8 +154,9 @@ fn carry_out(alloc: Global, words: &[&str], file: &[u8], failing: Failing) -> Re
     let output = ByteSink::new(alloc, listed(alloc, failing.output)?);
     let files = files_of(alloc, file)?;
     let store = MapStore::new(alloc, files, listed(alloc, failing.store)?)?;
-    let (code, host) = carry_out_over(alloc, &words, output, store)?;
-    Ok(seen(alloc, code, &host)?)
+    let mut shelf = CalmShelf::new(alloc, Vec::new(alloc))?;
+    let (outcome, host) = carry_out_over(alloc, &words, output, store, &mut shelf)?;
+    Ok(seen(alloc, outcome.code(), &host)?)
 }
 
 /// The shipped program with other instructions in place of its first ones.
