@@ -4,5 +4,6 @@ pub mod NumberLists
 pub mod OperandLists
 pub mod ProgramLists
 pub mod RegisterLists
+pub mod Sizes
 pub mod TextLists
 pub mod Utf8

@@ -11,6 +11,7 @@ use thiserror::Error;
 mod encoding;
 mod file;
 mod labels;
+mod laws;
 mod line;
 mod mnemonics;
 mod numbers;
@@ -19,6 +20,8 @@ mod program;
 mod registers;
 mod statement;
 mod text;
+
+pub use laws::addresses_are_places;
 
 /// Why a line is refused: the first of these that fits.
 #[derive(Clone, Copy, Debug, PartialEq, Eq, Error)]
