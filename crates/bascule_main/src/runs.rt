@@ -188,7 +188,7 @@ fn the_shipped_program_writes_and_exits(rt: HostRuntime) -> Result<(), Fail> {
 #[test]
 fn programs_end_with_their_status(rt: HostRuntime) -> Result<(), Fail> {
     let alloc = rt.alloc();
-    let cases: [(&str, &[u32], u8); 7] = [
+    let cases: [(&str, &[u32], u8); 8] = [
         (
             "li a0, 7; li a7, 93; ecall",
             &[0x0070_0513, 0x05d0_0893, 0x73],
@@ -207,6 +207,12 @@ fn programs_end_with_their_status(rt: HostRuntime) -> Result<(), Fail> {
             "lui t0, 17; sd t1, -4(t0)",
             &[0x0001_12b7, 0xfe62_be23],
             139,
+        ),
+        // a call in each turn, to the last of 1,000,000
+        (
+            "li a7, 0; l: ecall; j l",
+            &[0x0000_0893, 0x73, 0xffdf_f06f],
+            230,
         ),
     ];
     for (text, words, code) in cases {
