@@ -1,3 +1,4 @@
+mod Examples
 pub mod LabelLists
 pub mod LineLists
 pub mod NumberLists
