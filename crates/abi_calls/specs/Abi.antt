@@ -1,55 +1,82 @@
 -- What a host answers: one row for each call.
-use Rattle.std.specs.Prelude.{◌≡◌, ℕ, ◌+◌, ◌-◌, ◌^◌, ◌≤◌, Bool, true, false, min, List, [], ◌∷◌, ◌++◌, take, drop}
+use Rattle.std.specs.Prelude.{◌≡◌, ℕ, ◌+◌, ◌-◌, ◌^◌, Bool, true, false, min, List, [], ◌∷◌, ◌++◌}
 use Rattle.std.specs.Option.{option_map}
 use Rattle.std.specs.declared.option.Option.{Option}
 use Rattle.std.specs.declared.option.Option.TheVariants.{None, Some}
+use Rattle.bas_names.specs.declared.StreamName.TheVariants.{File}
 use Rattle.abi_calls.specs.declared.call.Call.{Call}
 use Rattle.abi_calls.specs.declared.call.Call.TheVariants.{MemoryAllocate, MemoryProtect, MemoryRead, MemoryWrite, ThreadCreate, ThreadResume, ThreadContext, EventCreate, StreamOpen, StreamRead, StreamWrite, StreamLength, Close, ProcessCreate, ProcessExit, Configure}
+use Rattle.abi_calls.specs.declared.object.Object.TheVariants.{Stream}
 use Rattle.abi_calls.specs.declared.reply.Reply.{Reply}
-use Rattle.abi_calls.specs.declared.reply.Reply.TheVariants.{Handle}
+use Rattle.abi_calls.specs.declared.reply.Reply.TheVariants.{Handle, BadHandle}
 use Rattle.abi_calls.specs.declared.host.Crossing.{Crossing}
-use Rattle.abi_calls.specs.declared.call.StreamName.{StreamName}
-use Rattle.abi_calls.specs.declared.call.StreamName.TheVariants.{File, ConIn, ConOut, ConErr}
-use Rattle.abi_calls.specs.Objects.{Objects, object_at, running, IsFresh}
-use Rattle.abi_calls.specs.World.{World, Contents, Told, Tells, StaysTold, Answer}
-use Rattle.abi_calls.specs.Memory.{allocated, reprotected, memory_read, memory_written}
-use Rattle.abi_calls.specs.Threads.{thread_created, thread_resumed, thread_set, event_created}
-use Rattle.abi_calls.specs.Streams.{stream_of, stream_opened, stream_read, stream_written, stream_length}
-use Rattle.abi_calls.specs.Processes.{closed, process_created, process_exited, configured}
+use Rattle.abi_calls.specs.Objects.{Object, Objects, object_at, running, IsFresh}
+use Rattle.abi_calls.specs.World.{World, Contents, Told, Tells, StaysTold, Answer, world_of, on_objects}
+use Rattle.abi_calls.specs.Memory.{memory_allocate_row, memory_protect_row, memory_read_row, memory_write_row}
+use Rattle.abi_calls.specs.Threads.{thread_create_row, thread_resume_row, thread_context_row, event_create_row}
+use Rattle.abi_calls.specs.Streams.{stream_open_row, stream_read_row, stream_write_row, stream_length_row}
+use Rattle.abi_calls.specs.Processes.{close_row, process_create_row, process_exit_row, configure_row}
 
--- The number that a host drew for a new object, read off its reply.
-abbrev pub drawn : Reply → ℕ
-drawn (Handle h) = h
-drawn _ = 0
+-- The number of a new object, read off the reply.
+abbrev pub new_number : Reply → ℕ
+new_number (Handle h) = h
+new_number _ = 0
 
--- The answer to a call, where the host chooses what the reply says that it chose.
+-- What a call answers from the objects alone; of what is no stream, calls on streams answer BadHandle.
+abbrev pub object_row : Objects → Call → Reply → Reply × Objects
+object_row o (MemoryAllocate process page count rights) r = memory_allocate_row o process page count rights (running (object_at o process))
+object_row o (MemoryProtect process page count rights) r = memory_protect_row o process page count rights (running (object_at o process))
+object_row o (MemoryRead process address count) r = memory_read_row o address count (running (object_at o process))
+object_row o (MemoryWrite process address bytes) r = memory_write_row o process address bytes (running (object_at o process))
+object_row o (ThreadCreate process context) r = thread_create_row o process context (running (object_at o process)) (new_number r)
+object_row o (ThreadResume thread) r = thread_resume_row o thread (object_at o thread)
+object_row o (ThreadContext thread context) r = thread_context_row o thread context (object_at o thread)
+object_row o EventCreate r = event_create_row o (new_number r)
+object_row o (Close handle) r = close_row o handle (object_at o handle)
+object_row o ProcessCreate r = process_create_row o (new_number r)
+object_row o (ProcessExit process code) r = process_exit_row o process code (running (object_at o process))
+object_row o (Configure settings positions) r = configure_row o settings positions
+object_row o _ r = (BadHandle, o)
+
+-- The answer to a call. The one thing that a host chooses, the number of a new object, is read off its reply.
 abbrev pub answer : World → Call → Reply → Answer
-answer w (MemoryAllocate process page count rights) r = allocated w process page count rights (running (object_at w.objects process))
-answer w (MemoryProtect process page count rights) r = reprotected w process page count rights (running (object_at w.objects process))
-answer w (MemoryRead process address count) r = memory_read w address count (running (object_at w.objects process))
-answer w (MemoryWrite process address bytes) r = memory_written w process address bytes (running (object_at w.objects process))
-answer w (ThreadCreate process context) r = thread_created w process context (running (object_at w.objects process)) (drawn r)
-answer w (ThreadResume thread) r = thread_resumed w thread (object_at w.objects thread)
-answer w (ThreadContext thread context) r = thread_set w thread context (object_at w.objects thread)
-answer w EventCreate r = event_created w (drawn r)
-answer w (StreamOpen name create exclusive) r = stream_opened w name create exclusive (drawn r)
-answer w (StreamRead stream offset count) r = stream_read w offset count (stream_of (object_at w.objects stream))
-answer w (StreamWrite stream offset bytes) r = stream_written w offset bytes (stream_of (object_at w.objects stream))
-answer w (StreamLength stream) r = stream_length w (stream_of (object_at w.objects stream))
-answer w (Close handle) r = closed w handle (object_at w.objects handle)
-answer w ProcessCreate r = process_created w (drawn r)
-answer w (ProcessExit process code) r = process_exited w process code (running (object_at w.objects process))
-answer w (Configure settings positions) r = configured w settings positions
+answer w (StreamOpen name create exclusive) r = stream_open_row w name create exclusive (new_number r)
+answer w (StreamRead stream offset count) r = stream_read_row w offset count r (object_at w.objects stream)
+answer w (StreamWrite stream offset bytes) r = stream_write_row w offset bytes r (object_at w.objects stream)
+answer w (StreamLength stream) r = stream_length_row w (object_at w.objects stream)
+answer w call r = on_objects w (object_row w.objects call r)
 
--- A drawn number is new.
-abbrev pub IsNew : Objects → Reply → Type 0
-IsNew o (Handle h) = IsFresh o h
-IsNew o _ = Unit {0}
+-- The calls that reach the contents of the outside: those on a stream that is a file or an end of the console.
+abbrev pub is_stream : Option Object → Bool
+is_stream (Some (Stream name)) = true
+is_stream _ = false
 
--- A host answers a call by a reply and leaves another world. Apart from the number of a new object, which is
--- any fresh one, the reply and the new world are fixed.
+abbrev pub is_outside : Objects → Call → Bool
+is_outside o (StreamOpen name create exclusive) = true
+is_outside o (StreamRead stream offset count) = is_stream (object_at o stream)
+is_outside o (StreamWrite stream offset bytes) = is_stream (object_at o stream)
+is_outside o (StreamLength stream) = is_stream (object_at o stream)
+is_outside o _ = false
+
+-- The calls that make something, or give bytes back, and so take memory of the host's own.
+abbrev pub takes_memory : Call → Bool
+takes_memory (MemoryProtect process page count rights) = false
+takes_memory (MemoryWrite process address bytes) = false
+takes_memory (ThreadResume thread) = false
+takes_memory (ThreadContext thread context) = false
+takes_memory (Close handle) = false
+takes_memory (ProcessExit process code) = false
+takes_memory _ = true
+
+-- What a host may choose: a new number is fresh.
+abbrev pub IsFreeChoice : World → Call → Reply → Type 0
+IsFreeChoice w call (Handle h) = IsFresh w.objects h
+IsFreeChoice w call _ = Unit {0}
+
+-- A host answers a call by a reply and leaves another world. Apart from what it chooses, the reply and the new world
+-- are fixed.
 pub record Abi (w : World) (call : Call) (reply : Reply) (w' : World) : Type 0 where
-  pub new : IsNew w.objects reply
+  pub choice : IsFreeChoice w call reply
   pub row : answer w call reply ≡ (reply, w')
 
 -- The same, for some contents that are as the host tells, before and after.
@@ -59,79 +86,23 @@ pub record Answers (o : Objects) (told : Told) (call : Call) (reply : Reply) (o'
   pub was : Tells told before
   pub is : Tells told' after
   pub stays : StaysTold told told'
-  pub abi : Abi (record { objects = o; contents = before }) call reply (record { objects = o'; contents = after })
+  pub abi : Abi (world_of o before) call reply (world_of o' after)
 
 -- A stream on a file.
-abbrev pub is_file : Option StreamName → Bool
-is_file (Some (File name)) = true
-is_file (Some ConIn) = false
-is_file (Some ConOut) = false
-is_file (Some ConErr) = false
-is_file None = false
+abbrev pub is_file : Option Object → Bool
+is_file (Some (Stream (File name))) = true
+is_file _ = false
 
 -- The calls that hosts take so far: no file is made or written.
 abbrev pub IsTaken : Objects → Call → Type 0
 IsTaken o (StreamOpen name create exclusive) = (create ≡ false) × (exclusive ≡ false)
-IsTaken o (StreamWrite stream offset bytes) = is_file (stream_of (object_at o stream)) ≡ false
+IsTaken o (StreamWrite stream offset bytes) = is_file (object_at o stream) ≡ false
 IsTaken o _ = Unit {0}
 
--- A count that rises by one, or stands at its end.
-abbrev pub raised : ℕ → ℕ
-raised n = min (n + 1) (2 ^ 64 - 1)
+-- A count that goes up by one, or stands at its end.
+abbrev pub counted_up : ℕ → ℕ
+counted_up n = min (n + 1) (2 ^ 64 - 1)
 
 -- The journal, where it is kept, gains an answered call.
 abbrev pub journalled : Option (List Crossing) → Crossing → Option (List Crossing)
 journalled journal crossing = option_map (λ crossings. crossings ++ crossing ∷ []) journal
-
-abbrev pub gained : Option (List ℕ) → List ℕ → Option (List ℕ)
-gained told bytes = option_map (λ old. old ++ bytes) told
-
-abbrev pub lost : Option (List ℕ) → ℕ → Option (List ℕ)
-lost told count = option_map (drop count) told
-
-abbrev pub for_output : List ℕ → Option StreamName → List ℕ
-for_output bytes (Some ConOut) = bytes
-for_output bytes (Some ConErr) = []
-for_output bytes (Some ConIn) = []
-for_output bytes (Some (File name)) = []
-for_output bytes None = []
-
-abbrev pub for_errors : List ℕ → Option StreamName → List ℕ
-for_errors bytes (Some ConErr) = bytes
-for_errors bytes (Some ConOut) = []
-for_errors bytes (Some ConIn) = []
-for_errors bytes (Some (File name)) = []
-for_errors bytes None = []
-
-abbrev pub from_input : ℕ → Option StreamName → ℕ
-from_input count (Some ConIn) = count
-from_input count (Some ConOut) = 0
-from_input count (Some ConErr) = 0
-from_input count (Some (File name)) = 0
-from_input count None = 0
-
--- The bytes that a call writes to the console's output, and to its errors.
-abbrev pub output_of : Objects → Call → List ℕ
-output_of o (StreamWrite stream offset bytes) = for_output bytes (stream_of (object_at o stream))
-output_of o _ = []
-
-abbrev pub errors_of : Objects → Call → List ℕ
-errors_of o (StreamWrite stream offset bytes) = for_errors bytes (stream_of (object_at o stream))
-errors_of o _ = []
-
--- How many bytes of the console's input a call asks for.
-abbrev pub input_of : Objects → Call → ℕ
-input_of o (StreamRead stream offset count) = from_input count (stream_of (object_at o stream))
-input_of o _ = 0
-
--- What a call that fails leaves of the contents: the output and errors with a front of what it writes, the
--- input without as much as it asks for at most, and the files.
-pub record Leaves (o : Objects) (call : Call) (told told' : Told) : Type 0 where
-  pub put : ℕ
-  pub output : told'.output ≡ gained told.output (take put (output_of o call))
-  pub noted : ℕ
-  pub errors : told'.errors ≡ gained told.errors (take noted (errors_of o call))
-  pub taken : ℕ
-  pub within : taken ≤ input_of o call
-  pub input : told'.input ≡ lost told.input taken
-  pub files : told'.files ≡ told.files

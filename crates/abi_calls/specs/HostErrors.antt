@@ -7,3 +7,6 @@ use Rattle.abi_calls.specs.declared.host.HostError.TheVariants as host
 abbrev pub host_error : EdgeError → HostError
 host_error edge.Failed = host.Failed
 host_error edge.Memory = host.Memory
+
+abbrev pub no_memory : HostError
+no_memory = host.Memory

@@ -5,6 +5,8 @@ pub mod Threads
 pub mod Streams
 pub mod Processes
 pub mod Abi
+pub mod Failing
+pub mod Rules
 pub mod Turn
 pub mod Sound
 pub mod Fresh

@@ -1,13 +1,14 @@
--- The objects of a world: what each handle names, the lists of threads, the positions and the settings.
-use Rattle.std.specs.Prelude.{◌≡◌, ℕ, ◌+◌, ◌%◌, ◌^◌, ◌≤◌, ◌==◌, Bool, true, false, ◌||◌, not, if◌then◌else◌, List, map, filter, count_by}
+-- The objects of a world: what each handle names, the pipes, the lists of threads, the positions and the settings.
+use Rattle.std.specs.Prelude.{◌≡◌, ℕ, ◌+◌, ◌%◌, ◌^◌, ◌≤◌, ◌==◌, Bool, true, false, ◌||◌, not, if◌then◌else◌, List, [], count_by, unwrap_or}
 use Rattle.std.specs.List.{list_any}
 use Rattle.std.specs.Ordering.{nat_cmp}
 use Rattle.std.specs.FinMap.{FinMap, get, insert, values, retain_keys}
 use Rattle.std.specs.declared.option.Option.{Option}
 use Rattle.std.specs.declared.option.Option.TheVariants.{None, Some}
 use Rattle.guest_space.specs.Space.{Space}
+use Rattle.turn_sched.specs.Lists.{Waiting, Lists, without_numbers, mentions_number}
 use Rattle.abi_calls.specs.declared.object.Object as objects
-use Rattle.abi_calls.specs.declared.object.Object.TheVariants.{Process, Thread, Event, Stream}
+use Rattle.abi_calls.specs.declared.object.Object.TheVariants.{Process, Thread, Event, Stream, ReadEnd, WriteEnd}
 use Rattle.abi_calls.specs.declared.settings.Positions.{Positions}
 use Rattle.abi_calls.specs.declared.settings.Settings.{Settings}
 
@@ -19,19 +20,15 @@ Object = objects.Object Space
 abbrev pub Live : Type 0
 Live = FinMap nat_cmp Object
 
--- A thread that waits for one of several objects, 0 standing for one that is gone, or for a time.
-pub record Waiting : Type 0 where
-  pub thread : ℕ
-  pub handles : List ℕ
-  pub deadline : Option ℕ
+-- The bytes that each pipe holds, by the number of the pipe.
+abbrev pub Pipes : Type 0
+Pipes = FinMap nat_cmp (List ℕ)
 
 -- All that a host tells always.
 pub record Objects : Type 0 where
   pub live : Live
-  pub ready : List ℕ
-  pub waiting : List Waiting
-  pub suspended : List ℕ
-  pub current : Option ℕ
+  pub pipes : Pipes
+  pub lists : Lists Waiting
   pub positions : Positions
   pub settings : Settings
 
@@ -42,50 +39,50 @@ object_at o h = get {R = nat_cmp} o.live h
 -- The memory of a process that hasn't exited.
 abbrev pub running : Option Object → Option Space
 running (Some (Process memory None)) = Some memory
-running (Some (Process memory (Some code))) = None
-running (Some (Thread process context)) = None
-running (Some (Event set)) = None
-running (Some (Stream name)) = None
-running None = None
+running _ = None
 
 abbrev pub is_process : Object → Bool
 is_process (Process memory code) = true
-is_process (Thread process context) = false
-is_process (Event set) = false
-is_process (Stream name) = false
+is_process _ = false
 
 abbrev pub is_thread : Object → Bool
-is_thread (Process memory code) = false
 is_thread (Thread process context) = true
-is_thread (Event set) = false
-is_thread (Stream name) = false
+is_thread _ = false
+
+-- The number names a thread.
+abbrev pub is_some_thread : Option Object → Bool
+is_some_thread (Some (Thread process context)) = true
+is_some_thread _ = false
 
 -- A thread of a process.
 abbrev pub is_thread_of : ℕ → Option Object → Bool
 is_thread_of p (Some (Thread process context)) = process == p
-is_thread_of p (Some (Process memory code)) = false
-is_thread_of p (Some (Event set)) = false
-is_thread_of p (Some (Stream name)) = false
-is_thread_of p None = false
+is_thread_of p _ = false
+
+-- The end of a pipe that is read, and the one that is written.
+abbrev pub is_read_end : ℕ → Object → Bool
+is_read_end pipe (ReadEnd number) = number == pipe
+is_read_end pipe _ = false
+
+abbrev pub is_write_end : ℕ → Object → Bool
+is_write_end pipe (WriteEnd number) = number == pipe
+is_write_end pipe _ = false
+
+-- Some live object passes a test.
+abbrev pub some_object : (Object → Bool) → Live → Bool
+some_object test live = list_any test (values live)
 
 -- How many live objects pass a test.
 abbrev pub number_of : (Object → Bool) → Live → ℕ
 number_of test live = count_by test (values live)
 
-abbrev pub is_at : ℕ → Option ℕ → Bool
-is_at h None = false
-is_at h (Some k) = k == h
-
-abbrev pub contains : List ℕ → ℕ → Bool
-contains xs h = list_any (λ x. x == h) xs
-
--- The list without a number.
-abbrev pub without : List ℕ → ℕ → List ℕ
-without xs h = filter (λ x. not (x == h)) xs
+-- The bytes that a pipe holds.
+abbrev pub pipe_bytes : Objects → ℕ → List ℕ
+pipe_bytes o pipe = unwrap_or (get {R = nat_cmp} o.pipes pipe) []
 
 -- A list mentions a number.
 abbrev pub mentions : Objects → ℕ → Bool
-mentions o h = contains o.ready h || (list_any (λ w. (w.thread == h) || contains w.handles h) o.waiting || (contains o.suspended h || is_at h o.current))
+mentions o h = mentions_number o.lists h
 
 -- A number for a new object: at least 1, of no live object, and in no list.
 pub record IsFresh (o : Objects) (h : ℕ) : Type 0 where
@@ -97,24 +94,23 @@ pub record IsFresh (o : Objects) (h : ℕ) : Type 0 where
 abbrev pub with_object : Objects → ℕ → Object → Objects
 with_object o h x = record o { live = insert o.live h x }
 
--- A number that ends is written as 0 where a thread waits for it.
-abbrev pub forgotten : (ℕ → Bool) → Waiting → Waiting
-forgotten ends w = record w { handles = map (λ k. if ends k then 0 else k) w.handles }
+abbrev pub with_lists : Objects → Lists Waiting → Objects
+with_lists o l = record o { lists = l }
 
-abbrev pub kept : (ℕ → Bool) → Option ℕ → Option ℕ
-kept ends None = None
-kept ends (Some k) = if ends k then None else Some k
+-- A pipe without ends is gone.
+abbrev pub has_end : Live → ℕ → Bool
+has_end live pipe = some_object (is_read_end pipe) live || some_object (is_write_end pipe) live
+
+abbrev pub without_lone_pipes : Objects → Objects
+without_lone_pipes o = record o { pipes = retain_keys o.pipes (has_end o.live) }
 
 -- The handles that pass a test end, and leave every list.
 abbrev pub without_handles : Objects → (ℕ → Bool) → Objects
-without_handles o ends = record o {
+without_handles o ends = without_lone_pipes (record o {
   live = retain_keys o.live (λ k. not (ends k));
-  ready = filter (λ k. not (ends k)) o.ready;
-  waiting = map (forgotten ends) (filter (λ w. not (ends w.thread)) o.waiting);
-  suspended = filter (λ k. not (ends k)) o.suspended;
-  current = kept ends o.current;
-}
+  lists = without_numbers ends o.lists;
+})
 
--- Positions rise modulo 2^64.
-abbrev pub risen : ℕ → ℕ
-risen n = (n + 1) % 2 ^ 64
+-- The position behind one, modulo 2^64.
+abbrev pub next_position : ℕ → ℕ
+next_position n = (n + 1) % 2 ^ 64

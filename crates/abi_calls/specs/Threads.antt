@@ -1,45 +1,38 @@
 -- The calls on threads and events: ThreadCreate, ThreadResume, ThreadContext, EventCreate.
-use Rattle.std.specs.Prelude.{ℕ, ◌==◌, Bool, false, ◌||◌, if◌then◌else◌, nat_le, [], ◌∷◌, ◌++◌}
+use Rattle.std.specs.Prelude.{ℕ, false, if◌then◌else◌, nat_le}
 use Rattle.std.specs.declared.option.Option.{Option}
 use Rattle.std.specs.declared.option.Option.TheVariants.{None, Some}
 use Rattle.rv_core.specs.declared.context.Context.{Context}
 use Rattle.guest_space.specs.Space.{Space}
-use Rattle.abi_calls.specs.declared.object.Object.TheVariants.{Process, Thread, Event, Stream}
+use Rattle.turn_sched.specs.Lists.{is_resting, with_suspended, with_resumed}
+use Rattle.abi_calls.specs.declared.limits.TheConstants.{MOST_THREADS}
+use Rattle.abi_calls.specs.declared.object.Object.TheVariants.{Thread, Event}
+use Rattle.abi_calls.specs.declared.reply.Reply.{Reply}
 use Rattle.abi_calls.specs.declared.reply.Reply.TheVariants.{Done, Handle, BadHandle, Busy, NoRoom}
-use Rattle.abi_calls.specs.Objects.{Object, Objects, number_of, is_thread, is_at, contains, without, with_object, kept}
-use Rattle.abi_calls.specs.World.{World, Answer, with_objects}
+use Rattle.abi_calls.specs.Objects.{Object, Objects, number_of, is_thread, with_object, with_lists}
 
--- A thread that rests: it is suspended or current.
-abbrev pub is_resting : Objects → ℕ → Bool
-is_resting o t = contains o.suspended t || is_at t o.current
+-- The objects with a new thread, the last of the suspended ones.
+abbrev pub with_thread : Objects → ℕ → ℕ → Context → Objects
+with_thread o h p context = with_lists (with_object o h (Thread p context)) (with_suspended o.lists h)
 
--- ThreadCreate: a suspended thread of a running process, the last of the list; 64 live threads at most.
-abbrev pub thread_created : World → ℕ → Context → Option Space → ℕ → Answer
-thread_created w p context None h = (BadHandle, w)
-thread_created w p context (Some s) h =
-    if nat_le 64 (number_of is_thread w.objects.live) then (NoRoom, w)
-    else (Handle h, with_objects w (record (with_object w.objects h (Thread p context)) { suspended = w.objects.suspended ++ h ∷ [] }))
+-- ThreadCreate: a suspended thread of a running process; 64 live threads at most.
+abbrev pub thread_create_row : Objects → ℕ → Context → Option Space → ℕ → Reply × Objects
+thread_create_row o p context None h = (BadHandle, o)
+thread_create_row o p context (Some s) h =
+    if nat_le MOST_THREADS (number_of is_thread o.live) then (NoRoom, o) else (Handle h, with_thread o h p context)
 
--- A thread that rests joins the end of the ready list.
-abbrev pub started : Objects → ℕ → Objects
-started o t = record o { suspended = without o.suspended t; current = kept (λ k. k == t) o.current; ready = o.ready ++ t ∷ [] }
-
--- ThreadResume.
-abbrev pub thread_resumed : World → ℕ → Option Object → Answer
-thread_resumed w t (Some (Thread p context)) = if is_resting w.objects t then (Done, with_objects w (started w.objects t)) else (Busy, w)
-thread_resumed w t (Some (Process memory code)) = (BadHandle, w)
-thread_resumed w t (Some (Event set)) = (BadHandle, w)
-thread_resumed w t (Some (Stream name)) = (BadHandle, w)
-thread_resumed w t None = (BadHandle, w)
+-- ThreadResume: a thread that rests joins the end of the ready list.
+abbrev pub thread_resume_row : Objects → ℕ → Option Object → Reply × Objects
+thread_resume_row o t (Some (Thread p context)) =
+    if is_resting o.lists t then (Done, with_lists o (with_resumed o.lists t)) else (Busy, o)
+thread_resume_row o t _ = (BadHandle, o)
 
 -- ThreadContext: other registers for a thread that rests.
-abbrev pub thread_set : World → ℕ → Context → Option Object → Answer
-thread_set w t context (Some (Thread p old)) = if is_resting w.objects t then (Done, with_objects w (with_object w.objects t (Thread p context))) else (Busy, w)
-thread_set w t context (Some (Process memory code)) = (BadHandle, w)
-thread_set w t context (Some (Event set)) = (BadHandle, w)
-thread_set w t context (Some (Stream name)) = (BadHandle, w)
-thread_set w t context None = (BadHandle, w)
+abbrev pub thread_context_row : Objects → ℕ → Context → Option Object → Reply × Objects
+thread_context_row o t context (Some (Thread p old)) =
+    if is_resting o.lists t then (Done, with_object o t (Thread p context)) else (Busy, o)
+thread_context_row o t context _ = (BadHandle, o)
 
 -- EventCreate: an event that isn't set.
-abbrev pub event_created : World → ℕ → Answer
-event_created w h = (Handle h, with_objects w (with_object w.objects h (Event false)))
+abbrev pub event_create_row : Objects → ℕ → Reply × Objects
+event_create_row o h = (Handle h, with_object o h (Event false))

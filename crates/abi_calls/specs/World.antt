@@ -1,6 +1,9 @@
--- A world: its objects, and the contents of the outside.
-use Rattle.std.specs.Prelude.{◌≡◌, ℕ, List, IfSome, is_some}
+-- A world: its objects, and the contents of the outside; and what a host tells of it.
+use Rattle.std.specs.Prelude.{◌≡◌, ℕ, List, [], IfSome, is_some, unwrap_or}
+use Rattle.std.specs.FinMap.{empty}
+use Rattle.std.specs.Option.{option_map}
 use Rattle.std.specs.declared.option.Option.{Option}
+use Rattle.std.specs.declared.option.Option.TheVariants.{None, Some}
 use Rattle.bas_edge.specs.Files.{Files}
 use Rattle.abi_calls.specs.declared.reply.Reply.{Reply}
 use Rattle.abi_calls.specs.Objects.{Objects}
@@ -15,6 +18,33 @@ pub record Contents : Type 0 where
 pub record World : Type 0 where
   pub objects : Objects
   pub contents : Contents
+
+-- The world of these objects and contents.
+abbrev pub world_of : Objects → Contents → World
+world_of o x = record { objects = o; contents = x }
+
+-- A reply, and the world after it.
+abbrev pub Answer : Type 0
+Answer = Reply × World
+
+abbrev pub with_objects : World → Objects → World
+with_objects w o = record w { objects = o }
+
+abbrev pub with_contents : World → Contents → World
+with_contents w x = record w { contents = x }
+
+abbrev pub with_files : Contents → Files → Contents
+with_files x files = record x { files = files }
+
+-- What a row answers on a part of the world is an answer of the world.
+abbrev pub on_objects : World → Reply × Objects → Answer
+on_objects w answer = (answer.0, with_objects w answer.1)
+
+abbrev pub on_contents : World → Reply × Contents → Answer
+on_contents w answer = (answer.0, with_contents w answer.1)
+
+abbrev pub on_files : Contents → Reply × Files → Reply × Contents
+on_files x answer = (answer.0, with_files x answer.1)
 
 -- What a host tells of its contents: each part, or nothing of it.
 pub record Told : Type 0 where
@@ -37,12 +67,24 @@ pub record StaysTold (old new : Told) : Type 0 where
   pub output : is_some new.output ≡ is_some old.output
   pub errors : is_some new.errors ≡ is_some old.errors
 
--- A reply, and the world after it.
-abbrev pub Answer : Type 0
-Answer = Reply × World
+-- Some contents that are as told.
+abbrev pub some_contents : Told → Contents
+some_contents told = record {
+  files = unwrap_or told.files empty;
+  input = unwrap_or told.input [];
+  output = unwrap_or told.output [];
+  errors = unwrap_or told.errors [];
+}
 
-abbrev pub with_objects : World → Objects → World
-with_objects w o = record w { objects = o }
+-- The contents, where each part is told.
+abbrev pub whole_of : Option Files → Option (List ℕ) → Option (List ℕ) → Option (List ℕ) → Option Contents
+whole_of (Some files) (Some input) (Some output) (Some errors) =
+    Some (record { files = files; input = input; output = output; errors = errors })
+whole_of _ _ _ _ = None
 
-abbrev pub with_contents : World → Contents → World
-with_contents w c = record w { contents = c }
+abbrev pub whole : Told → Option Contents
+whole told = whole_of told.files told.input told.output told.errors
+
+-- Where all contents are told before, they are told after, and the two are so.
+pub record WhereTold (told told' : Told) (P : Contents → Contents → Type 0) : Type 0 where
+  pub holds : (x : Contents) → whole told ≡ Some x → (y : Contents) × (whole told' ≡ Some y) × P x y

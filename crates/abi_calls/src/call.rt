@@ -1,19 +1,7 @@
 use crate::settings::{Positions, Settings};
 use bas_items::Items;
+use bas_names::StreamName;
 use rv_core::Context;
-
-/// What a stream is opened on.
-#[derive(Debug, Drop)]
-pub enum StreamName {
-    /// A file, by the bytes of its name.
-    File(Items<u8>),
-    /// The console's input.
-    ConIn,
-    /// The console's output.
-    ConOut,
-    /// The console's errors.
-    ConErr,
-}
 
 /// A call of the host's interface. Handles are numbers of at least 1; rights are 1 to read, 2 to write and
 /// 4 to run, added up; a page has 4,096 bytes.

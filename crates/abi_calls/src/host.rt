@@ -3,16 +3,17 @@ ghost use Rattle.bas_edge.specs.Faults.{HasCause};
 ghost use Rattle.abi_calls.specs.declared.host.Crossing.{Crossing};
 ghost use Rattle.abi_calls.specs.Objects.{Objects};
 ghost use Rattle.abi_calls.specs.World.{Told};
-ghost use Rattle.abi_calls.specs.Abi.{Answers, IsTaken, Leaves, raised, journalled};
-ghost use Rattle.abi_calls.specs.Turn.{turned};
+ghost use Rattle.abi_calls.specs.Abi.{Answers, IsTaken, counted_up, journalled};
+ghost use Rattle.abi_calls.specs.Failing.{Leaves};
+ghost use Rattle.abi_calls.specs.Turn.{world_turn};
 ghost use Rattle.abi_calls.specs.Sound.{IsSound};
 ghost use Rattle.abi_calls.specs.Fresh.{IsFreshWorld};
-ghost use Rattle.abi_calls.specs.HostErrors.{host_error};
+ghost use Rattle.abi_calls.specs.HostErrors.{host_error, no_memory};
 
 use crate::call::Call;
 use crate::reply::Reply;
 use crate::threads::Turned;
-use bas_edge::EdgeError;
+use bas_edge::{EdgeError, Memory};
 use thiserror::Error;
 
 /// Why a host gave no reply.
@@ -24,6 +25,14 @@ pub enum HostError {
     /// There was no memory.
     #[error("out of memory")]
     Memory,
+}
+
+impl From<Memory> for HostError {
+    ghost from_gives = { λ _ error. error ≡ no_memory };
+
+    fn from(_memory: Memory) -> HostError {
+        HostError::Memory
+    }
 }
 
 impl From<EdgeError> for HostError {
@@ -68,8 +77,8 @@ pub trait Host {
     /// Makes a turn: waiting threads that are due become ready, one ready thread is picked and does up to
     /// `slice` instructions. Takes no memory and can't fail.
     fn turn(&mut self) -> Turned
-        requires { (objects self.old).current ≡ None }
-        ensures turned { turned (objects self.old) ≡ (result, objects self.new) }
+        requires { (objects self.old).lists.current ≡ None }
+        ensures turned { world_turn (objects self.old) ≡ (result, objects self.new) }
         ensures told { told self.new ≡ told self.old }
         ensures journal { journal self.new ≡ journal self.old }
         ensures answered { answered_count self.new ≡ answered_count self.old }
@@ -78,17 +87,19 @@ pub trait Host {
     /// Answers a call.
     ///
     /// # Errors
-    /// `Failed` only where the count of faults rose in this call; `Memory`. After either the host is used no
-    /// more.
+    /// `Failed` only where the count of faults rose in this call; `Memory`, where it did not. After either the host
+    /// is used no more, and of what the call does to the contents nothing or a part is done.
     fn call(&mut self, call: &Call) -> Result<Reply, HostError>
         requires { IsTaken (objects self.old) call.now }
         ensures row { IfOk result (λ reply. Answers (objects self.old) (told self.old) call.now reply (objects self.new) (told self.new)) }
         ensures journal { IfOk result (λ reply. journal self.new ≡ journalled (journal self.old) (record { turns = (objects self.old).positions.turns; call = call.now; reply = reply })) }
-        ensures answered { OnOk result (answered_count self.new ≡ raised (answered_count self.old)) }
+        ensures answered { OnOk result (answered_count self.new ≡ counted_up (answered_count self.old)) }
         ensures left { OnErr result (Leaves (objects self.old) call.now (told self.old) (told self.new)) }
         ensures same_journal { OnErr result (journal self.new ≡ journal self.old) }
         ensures same_answered { OnErr result (answered_count self.new ≡ answered_count self.old) }
-        ensures cause { HasCause HostError.Failed (fault_count self.old) (fault_count self.new) result };
+        ensures cause { HasCause HostError.Failed (fault_count self.old) (fault_count self.new) result }
+        ensures unfaulted { OnOk result (fault_count self.new ≡ fault_count self.old) }
+        ensures want { result ≡ Err HostError.Memory → fault_count self.new ≡ fault_count self.old };
 
     /// How many calls were answered.
     fn answered(&self) -> u64

@@ -3,12 +3,14 @@
 
 mod call;
 mod host;
+pub mod limits;
 mod object;
 mod reply;
 mod settings;
 mod threads;
 
-pub use call::{Call, StreamName};
+pub use bas_names::StreamName;
+pub use call::Call;
 pub use host::{Crossing, Host, HostError};
 pub use object::Object;
 pub use reply::Reply;

@@ -1,4 +1,4 @@
-use crate::call::StreamName;
+use bas_names::StreamName;
 use rv_core::Context;
 
 /// What a handle names. `M` is the memory of a process.
@@ -12,4 +12,8 @@ pub enum Object<M> {
     Event { set: bool },
     /// An open file or an end of the console.
     Stream(StreamName),
+    /// The end of a pipe, by its number, that is read.
+    ReadEnd(u64),
+    /// The end of a pipe, by its number, that is written.
+    WriteEnd(u64),
 }
