@@ -26,15 +26,16 @@ can_be_awaited _ = false
 -- A thread waits for 16 numbers at most, each 0 or of an object that can be waited for.
 abbrev pub is_sound_wait : Objects → Waiting → Bool
 is_sound_wait o w =
-    list_all (λ h. h == 0 || can_be_awaited (object_at o h)) w.handles && nat_le (length w.handles) MOST_WAITS
+    list_all (λ h. h == 0 || can_be_awaited (object_at o h)) w.handles
+    && nat_le (length w.handles) MOST_WAITS
 
 -- A file's name has 1 to 80 bytes.
 abbrev pub is_sound_name : StreamName → Bool
 is_sound_name (File name) = is_name name
 is_sound_name _ = true
 
--- A running process has at most 1,024 pages, an exited one has none. A thread's process runs, and an end's pipe is
--- there.
+-- A running process has at most 1,024 pages, an exited one has none. A thread's process runs, and
+-- an end's pipe is there.
 abbrev pub IsSoundObject : Objects → Object → Type 0
 IsSoundObject o (Process s None) = IsSpace s × (len s ≤ MOST_PAGES)
 IsSoundObject o (Process s (Some code)) = s ≡ empty
