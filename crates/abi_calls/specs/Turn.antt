@@ -103,12 +103,12 @@ run_thread o t (Some (Thread p context)) = run_in o t p context (running (object
 run_thread o t _ = (Stuck, o)
 
 -- Where no thread is ready, nothing stands at any place of the ready list.
-abbrev pub turn_at : Objects → ℕ → Option ℕ → Turned × Objects
-turn_at o place (Some t) = run_thread (with_pick o place) t (object_at o t)
-turn_at o place None = idle_turn o
+abbrev pub turn_of_pick : Objects → ℕ → Option ℕ → Turned × Objects
+turn_of_pick o place (Some t) = run_thread (with_pick o place) t (object_at o t)
+turn_of_pick o place None = idle_turn o
 
 -- A turn of the world.
 abbrev pub world_turn : Objects → Turned × Objects
 world_turn o =
     let awake = with_due_ready o in
-    turn_at awake (pick_of awake) (slice_get awake.lists.ready (pick_of awake))
+    turn_of_pick awake (pick_of awake) (slice_get awake.lists.ready (pick_of awake))

@@ -1,0 +1,5 @@
+pub mod NumberMaps
+pub mod Counts
+pub mod Effects
+pub mod PositionsKept
+pub mod Facts
