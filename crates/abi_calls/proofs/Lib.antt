@@ -4,3 +4,5 @@ pub mod Effects
 pub mod PositionsKept
 pub mod Facts
 pub mod SoundProp
+pub mod SoundChanges
+pub mod Sounds
