@@ -3,3 +3,4 @@ pub mod Counts
 pub mod Effects
 pub mod PositionsKept
 pub mod Facts
+pub mod TurnFacts
