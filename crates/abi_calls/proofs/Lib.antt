@@ -4,3 +4,4 @@ pub mod Effects
 pub mod PositionsKept
 pub mod Facts
 pub mod TurnFacts
+pub mod Worked
