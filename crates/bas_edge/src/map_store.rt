@@ -1,7 +1,7 @@
 ghost use Rattle.std.specs.Prelude.{◌≡◌, [], Some, length, map, take, drop, option_copied, IfOk, OnOk, OnErr, IsErrOf};
 ghost use Rattle.bas_edge.specs.Failures.{CountsCall, failing_at};
 ghost use Rattle.bas_edge.specs.Faults.{HasCause};
-ghost use Rattle.bas_edge.specs.Files.{HasFile, HasNoFile, HasRange, entry_of, file_bytes, file_length, file_of, files_of, with_bytes_at, with_file, with_length, with_renamed, without_file};
+ghost use Rattle.bas_edge.specs.Files.{HasFile, HasNoFile, HasRange, TakesBytes, entry_of, file_bytes, file_length, file_of, files_of, with_bytes_at, with_file, with_length, with_renamed, without_file};
 
 use crate::calm_store::CalmStore;
 use crate::errors::{EdgeError, Memory};
@@ -84,7 +84,7 @@ impl Store for MapStore {
     }
 
     fn write_at(&mut self, name: &[u8], at: u64, bytes: &[u8]) -> Result<(), EdgeError>
-        requires { HasFile self.old.held name.now }
+        requires { TakesBytes self.old.held name.now bytes.now }
         ensures counted { CountsCall EdgeError.Failed self.old self.new result }
         ensures written { OnOk result (self.new.held ≡ with_bytes_at name.now at bytes.now self.old.held) }
         ensures same { OnErr result (self.new.held ≡ self.old.held) }

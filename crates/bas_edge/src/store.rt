@@ -1,7 +1,7 @@
 ghost use Rattle.std.specs.Prelude.{◌≡◌, ℕ, [], Option, option_map, length, take, drop, IfOk, OnOk, OnErr, IsErrOf};
 ghost use Rattle.std.specs.Option.{ForSome};
 ghost use Rattle.bas_edge.specs.Faults.{HasCause};
-ghost use Rattle.bas_edge.specs.Files.{Files, HasFile, HasNoFile, HasRange, file_bytes, file_length, with_bytes_at, with_file, with_length, with_renamed, without_file};
+ghost use Rattle.bas_edge.specs.Files.{Files, HasFile, HasNoFile, HasRange, TakesBytes, file_bytes, file_length, with_bytes_at, with_file, with_length, with_renamed, without_file};
 
 use crate::errors::EdgeError;
 
@@ -32,8 +32,9 @@ pub trait Store {
         ensures want { IsErrOf result EdgeError.Memory → fault_count self.new ≡ fault_count self.old };
 
     /// Writes all the bytes into the file from `at` on, and fills a gap past its old end with zeros.
+    /// No bytes change nothing, and make no file where none has the name.
     fn write_at(&mut self, name: &[u8], at: u64, bytes: &[u8]) -> Result<(), EdgeError>
-        requires { ForSome (files self.old) (λ told. HasFile told name.now) }
+        requires { ForSome (files self.old) (λ told. TakesBytes told name.now bytes.now) }
         ensures written { OnOk result (files self.new ≡ option_map (with_bytes_at name.now at bytes.now) (files self.old)) }
         ensures same { OnErr result (files self.new ≡ files self.old) }
         ensures cause { HasCause EdgeError.Failed (fault_count self.old) (fault_count self.new) result }
