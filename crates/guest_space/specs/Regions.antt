@@ -1,11 +1,10 @@
 -- The regions of a process: its adjacent pages of equal rights, each run of them as long as it can be.
 use Rattle.std.specs.Prelude.{◌≡◌, ◌≢◌, ℕ, ◌+◌, ◌≤◌, ◌==◌, ◌&&◌, if◌then◌else◌, List, [], ◌∷◌, map}
-use Rattle.std.specs.Option.{option_map}
-use Rattle.std.specs.FinMap.{get, entries}
+use Rattle.std.specs.FinMap.{entries}
 use Rattle.std.specs.declared.option.Option.{Option}
 use Rattle.std.specs.declared.option.Option.TheVariants.{None, Some}
 use Rattle.guest_space.specs.declared.Extent.{Extent}
-use Rattle.guest_space.specs.Space.{Frame, Space, in_run}
+use Rattle.guest_space.specs.Space.{Frame, Space, in_run, page_rights}
 
 -- The page after the last of an extent.
 abbrev pub extent_end : Extent → ℕ
@@ -49,10 +48,6 @@ page_extent e = record { page = e.0; count = 1; rights = (e.1).rights }
 -- The regions of a space, rising.
 unfoldable pub regions : Space → List Extent
 regions s = merged (map page_extent (entries s))
-
--- The rights of a page, where it is there.
-abbrev pub page_rights : Space → ℕ → Option ℕ
-page_rights s q = option_map (λ (frame : Frame). frame.rights) (get s q)
 
 -- Extents are the regions of a space: maximal, with just its pages, and each with its rights.
 pub record AreRegions (s : Space) (extents : List Extent) : Type 0 where
