@@ -5,3 +5,6 @@ pub mod PositionsKept
 pub mod Facts
 pub mod TurnFacts
 pub mod Worked
+pub mod SoundProp
+pub mod SoundChanges
+pub mod Sounds
