@@ -6,6 +6,7 @@ use Rattle.std.specs.FinMap.{empty, len, len-empty}
 use Rattle.std.specs.declared.option.Option.{Option}
 use Rattle.std.specs.declared.option.Option.TheVariants.{None, Some}
 use Rattle.std.proofs.Common.{refl, sym, ap, subst, ◌∙◌, arith, eq-eqb, eqb-true}
+use Rattle.bas_names.specs.declared.StreamName.{StreamName}
 use Rattle.bas_names.specs.declared.StreamName.TheVariants.{File}
 use Rattle.rv_core.specs.declared.context.Context.{Context}
 use Rattle.rv_core.specs.Machine.{instructions}
@@ -31,7 +32,7 @@ use Rattle.abi_calls.specs.Memory.{with_pages}
 use Rattle.abi_calls.specs.Threads.{with_thread}
 use Rattle.abi_calls.specs.Processes.{without_threads}
 use Rattle.abi_calls.specs.Turn.{is_due, with_due_ready, with_turn, idle_turn, pick_of, with_pick, with_run_of, run_end, run_in, run_thread, turn_of_pick, world_turn}
-use Rattle.abi_calls.specs.Sound.{can_be_awaited, is_sound_wait, IsSoundObject, IsSound, HasBytes}
+use Rattle.abi_calls.specs.Sound.{can_be_awaited, is_sound_name, is_sound_wait, IsSoundObject, IsSound, HasBytes}
 use Rattle.abi_calls.specs.Abi.{Abi, Answers, IsFreeChoice}
 use Rattle.abi_calls.proofs.NumberMaps.{get_other}
 use Rattle.abi_calls.proofs.Counts.{one_at, one_of, count_set}
@@ -169,15 +170,21 @@ fits_fresh o h x sound fresh itself processes threads =
       threads = omega arith;
     }
 
+is_some_thread-some : (x : Object) → is_some_thread (Some x) ≡ is_thread x
+is_some_thread-some (Thread p context) = refl
+is_some_thread-some x = refl
+
 -- A new object that is neither a process nor a thread.
-IsSound-with_new : (o : Objects) (h : ℕ) (x : Object) → IsSound o → IsFresh o h → IsSoundObject (with_object o h x) x → is_process x ≡ false → is_thread x ≡ false
-    → is_some_thread (Some x) ≡ false → IsSound (with_object o h x)
-IsSound-with_new o h x sound fresh itself no_process no_thread other =
+IsSound-with_new : (o : Objects) (h : ℕ) (x : Object) → IsSound o → IsFresh o h → IsSoundObject (with_object o h x) x → is_process x ≡ false → is_thread x ≡ false → IsSound (with_object o h x)
+IsSound-with_new o h x sound fresh itself no_process no_thread =
     let processes : one_of is_process x ≡ 0 = ap (λ b. cond b 1 0) no_process in
     let threads : one_of is_thread x ≡ 0 = ap (λ b. cond b 1 0) no_thread in
     let some_bound = sound.processes in
     let other_bound = sound.threads in
-    IsSound-with_object o h x sound (fits_fresh o h x sound fresh itself (omega arith) (omega arith)) (other ∙ sym (ap is_some_thread fresh.free))
+    IsSound-with_object o h x sound (fits_fresh o h x sound fresh itself (omega arith) (omega arith)) (is_some_thread-some x ∙ no_thread ∙ sym (ap is_some_thread fresh.free))
+
+pub IsSound-with_stream : (o : Objects) (h : ℕ) (name : StreamName) → IsSound o → IsFresh o h → is_sound_name name ≡ true → IsSound (with_object o h (Stream name))
+IsSound-with_stream o h name sound fresh good = IsSound-with_new o h (Stream name) sound fresh good refl refl
 
 pub IsSound-with_process : (o : Objects) (h : ℕ) → IsSound o → IsFresh o h → number_of is_process o.live < MOST_PROCESSES → IsSound (with_object o h (Process empty None))
 IsSound-with_process o h sound fresh room =
@@ -259,9 +266,9 @@ effects w sound = let o = w.objects in record {
   makes_thread = λ h p context s runs room small fresh. IsSound-with_fresh_thread o h p context s sound fresh runs room;
   resumes = λ t p context thread rests small choice. IsSound-with_resumed o t sound (ap is_some_thread thread) rests;
   registers = λ t p old new thread rests small choice. IsSound-with_registers o t p old new sound thread;
-  makes_event = λ h small fresh. IsSound-with_new o h (Event false) sound fresh tt refl refl refl;
-  opens = λ h name create exclusive good small fresh. IsSound-with_new o h (Stream name) sound fresh good refl refl refl;
-  makes_file = λ h name exclusive good absent small fresh. IsSound-with_new o h (Stream (File name)) sound fresh good refl refl refl;
+  makes_event = λ h small fresh. IsSound-with_new o h (Event false) sound fresh tt refl refl;
+  opens = λ h name create exclusive good small fresh. IsSound-with_stream o h name sound fresh good;
+  makes_file = λ h name exclusive good absent small fresh. IsSound-with_stream o h (File name) sound fresh good;
   takes = λ s offset count is small choice. sound;
   writes_file = λ s offset bytes name is small choice. sound;
   writes_output = λ s offset bytes is small choice. sound;
