@@ -3,7 +3,7 @@ use Rattle.std.specs.Prelude.{◌≡◌, ℕ, ◌+◌, ◌≤◌, Bool, true, fa
 use Rattle.std.specs.List.{list_any}
 use Rattle.std.specs.Ordering.{nat_cmp, is_lt, is_eq, eq_by_cmp}
 use Rattle.std.specs.Cmp.{nat_cmp_total, unsigned_tied}
-use Rattle.std.specs.FinMap.{FinMap, get, insert, remove, retain_keys, empty, entries, entries_sorted, entries-insert, get-entries, get-retain_keys, nat_cmp-IsAntisymmetric, len-entries, len-empty, values}
+use Rattle.std.specs.FinMap.{FinMap, get, insert, retain_keys, empty, entries, entries_sorted, entries-insert, get-entries, get-retain_keys, nat_cmp-IsAntisymmetric, len-entries, len-empty, values}
 use Rattle.std.specs.FinMap.Entries.{put, find, is_sorted, below_all, by_order, is_sorted-put, is_sorted-where_key, find-where_key, same_entries}
 use Rattle.std.proofs.lemmas.Bool.{or_left, or_right}
 use Rattle.std.specs.declared.cmp.Ordering.{Ordering}
@@ -12,7 +12,6 @@ use Rattle.std.specs.declared.option.Option.{Option}
 use Rattle.std.specs.declared.option.Option.TheVariants.{None, Some}
 use Rattle.std.proofs.Common.{refl, sym, ap, ◌∙◌, arith, eq-eqb, eqb-true}
 use Rattle.std.proofs.lemmas.List.Sums.{sum_by-cons}
-use Rattle.abi_calls.proofs.NumberMaps.{get_gone, set_after_unset, set_what_is_there}
 
 module _ {X : Type 0} (test : X → Bool) where
   -- how many of one value pass
@@ -74,11 +73,6 @@ module _ {X : Type 0} (test : X → Bool) where
 
   pub count_set_new : (m : FinMap nat_cmp X) (k : ℕ) (v : X) → get m k ≡ None → count_by test (values (insert m k v)) ≡ count_by test (values m) + one_of v
   count_set_new m k v absent = omega (arith, ap one_at absent, count_set m k v)
-
-  pub count_unset : (m : FinMap nat_cmp X) (k : ℕ) (v : X) → get m k ≡ Some v → count_by test (values (remove m k)) + one_of v ≡ count_by test (values m)
-  count_unset m k v there =
-      let back : insert (remove m k) k v ≡ m = set_after_unset m k v ∙ set_what_is_there m k v there in
-      sym (count_set_new (remove m k) k v (get_gone m k)) ∙ ap (λ n. count_by test (values n)) back
 
   no_entries : (es : List (ℕ × X)) → length es ≡ 0 → count_values es ≡ 0
   unfolding count_values

@@ -35,7 +35,7 @@ use Rattle.abi_calls.specs.Turn.{is_due, with_due_ready, with_turn, idle_turn, p
 use Rattle.abi_calls.specs.Sound.{can_be_awaited, is_sound_name, is_sound_wait, IsSoundObject, IsSound, HasBytes}
 use Rattle.abi_calls.specs.Abi.{Abi, Answers, IsFreeChoice}
 use Rattle.abi_calls.proofs.NumberMaps.{get_other}
-use Rattle.abi_calls.proofs.Counts.{one_at, one_of, count_set}
+use Rattle.abi_calls.proofs.Counts.{one_at, one_of, count_set, count_set_new}
 use Rattle.abi_calls.proofs.Facts.{RunsIn, live_positive, ready_thread}
 use Rattle.abi_calls.proofs.Effects.{Effects, has-Abi}
 use Rattle.abi_calls.proofs.TurnFacts.{home_apart}
@@ -157,10 +157,8 @@ IsSound-with_pages o p old new sound runs pages =
 fits_fresh : (o : Objects) (h : ℕ) (x : Object) → IsSound o → IsFresh o h → IsSoundObject (with_object o h x) x
     → number_of is_process o.live + one_of is_process x ≤ MOST_PROCESSES → number_of is_thread o.live + one_of is_thread x ≤ MOST_THREADS → Fits o h x
 fits_fresh o h x sound fresh itself processes threads =
-    let more_processes : number_of is_process (with_object o h x).live + 0 ≡ number_of is_process o.live + one_of is_process x =
-    subst (λ y. number_of is_process (with_object o h x).live + one_at is_process y ≡ number_of is_process o.live + one_of is_process x) fresh.free (count_set is_process o.live h x) in
-    let more_threads : number_of is_thread (with_object o h x).live + 0 ≡ number_of is_thread o.live + one_of is_thread x =
-    subst (λ y. number_of is_thread (with_object o h x).live + one_at is_thread y ≡ number_of is_thread o.live + one_of is_thread x) fresh.free (count_set is_thread o.live h x) in
+    let more_processes : number_of is_process (with_object o h x).live ≡ number_of is_process o.live + one_of is_process x = count_set_new is_process o.live h x fresh.free in
+    let more_threads : number_of is_thread (with_object o h x).live ≡ number_of is_thread o.live + one_of is_thread x = count_set_new is_thread o.live h x fresh.free in
     record {
       positive = fresh.positive;
       awaited = λ is. absurd (let e : false ≡ true = ap can_be_awaited (sym fresh.free) ∙ is in cc);

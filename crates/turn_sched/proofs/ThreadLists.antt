@@ -9,7 +9,7 @@ use Rattle.std.proofs.lemmas.List.Sums.{sum_by-cons, sum_by-append, sum_by-remov
 use Rattle.std.proofs.lemmas.List.Filters.{sum_by-filter_both}
 use Rattle.std.proofs.lemmas.List.Folds.{fold-map}
 use Rattle.std.proofs.lemmas.Option.{slice_get_within, get_or_from_slice_get}
-use Rattle.turn_sched.specs.Lists.{Waiting, Lists, no_threads, contains, without, is_at, other_than, unless_ended, is_resting, is_waiting_with, mentions_number, with_ready, with_suspended, without_resting, with_resumed, with_woken, without_place, with_gone, without_numbers, times, option_list, waiting_threads, standings}
+use Rattle.turn_sched.specs.Lists.{Waiting, Lists, contains, without, is_at, other_than, unless_ended, is_resting, is_waiting_with, mentions_number, with_ready, with_suspended, without_resting, with_resumed, with_woken, without_place, with_gone, without_numbers, times, option_list, waiting_threads, standings}
 
 -- A test that holds of each.
 module _ {X : Type 0} where
@@ -167,9 +167,6 @@ pub waiting_threads-without_numbers : (ends : ℕ → Bool) (l : Lists Waiting) 
 waiting_threads-without_numbers ends l = threads_left ends l.waiting
 
 -- How often a thread stands anywhere, after each change to the lists.
-pub standings-no_threads : (k : ℕ) → standings no_threads k ≡ 0
-standings-no_threads k = refl
-
 pub standings-with_ready : (l : Lists Waiting) (t k : ℕ) → standings (with_ready l t) k ≡ standings l k + cond (t == k) 1 0
 standings-with_ready l t k = let more = times-push k l.ready t in omega arith
 
