@@ -1,6 +1,6 @@
 -- Worlds stay sound: by every call, and by every turn.
-use Rattle.std.specs.Prelude.{◌≡◌, ℕ, ◌+◌, ◌≤◌, ◌<◌, Bool, true, false, cond, not, ◌==◌, is_some, slice_get}
-use Rattle.std.specs.List.{list_any}
+use Rattle.std.specs.Prelude.{◌≡◌, ℕ, ◌+◌, ◌≤◌, ◌<◌, ◌^◌, Bool, true, false, cond, not, ◌==◌, List, is_some, slice_get}
+use Rattle.std.specs.List.{All, list_any}
 use Rattle.std.specs.Ordering.{nat_cmp}
 use Rattle.std.specs.FinMap.{empty, len, len-empty}
 use Rattle.std.specs.declared.option.Option.{Option}
@@ -9,16 +9,17 @@ use Rattle.std.proofs.Common.{refl, sym, ap, subst, ◌∙◌, arith, eq-eqb, eq
 use Rattle.bas_names.specs.declared.StreamName.TheVariants.{File}
 use Rattle.rv_core.specs.declared.context.Context.{Context}
 use Rattle.rv_core.specs.Machine.{instructions}
-use Rattle.guest_space.specs.Space.{Space, Frame, IsSpace, memory_of}
+use Rattle.guest_space.specs.Space.{Space, Frame, IsSpace, memory_of, with_run, protected, with_memory}
 use Rattle.guest_space.specs.Access.{with_bytes}
-use Rattle.guest_space.specs.Run.{is_held, if_held, first_held}
+use Rattle.guest_space.specs.Run.{is_run, is_held, if_held, first_held}
 use Rattle.guest_space.specs.Running.{Ran as Run, run_space}
 use Rattle.guest_space.proofs.FirstSome.{first_some_none_at}
-use Rattle.guest_space.proofs.Spaces.{IsSpace-empty, IsSpace-with_run, IsSpace-protected, IsSpace-with_memory}
+use Rattle.guest_space.proofs.Spaces.{IsSpace-empty, IsSpace-with_run, IsSpace-protected, IsSpace-with_memory, HasBytes-memory_of, HasBytes-with_bytes}
+use Rattle.guest_space.proofs.Turns.{IsSpace-run_space}
 use Rattle.guest_space.proofs.Filling.{len-with_run, len-protected, len-with_memory}
 use Rattle.turn_sched.specs.Lists.{Waiting, with_woken, with_ready, without_place}
 use Rattle.turn_sched.proofs.ThreadLists.{list_all-filter, standings-with_woken, standings-with_ready, standings-current, standings-without_place}
-use Rattle.abi_calls.specs.declared.limits.TheConstants.{MOST_PAGES, MOST_PROCESSES, MOST_THREADS}
+use Rattle.abi_calls.specs.declared.limits.TheConstants.{MOST_PAGES, MOST_PROCESSES, MOST_THREADS, ALL_RIGHTS}
 use Rattle.abi_calls.specs.declared.call.Call.{Call}
 use Rattle.abi_calls.specs.declared.object.Object.TheVariants.{Process, Thread, Event, Stream, ReadEnd, WriteEnd}
 use Rattle.abi_calls.specs.declared.reply.Reply.{Reply}
@@ -30,12 +31,13 @@ use Rattle.abi_calls.specs.Memory.{with_pages}
 use Rattle.abi_calls.specs.Threads.{with_thread}
 use Rattle.abi_calls.specs.Processes.{without_threads}
 use Rattle.abi_calls.specs.Turn.{is_due, with_due_ready, with_turn, idle_turn, pick_of, with_pick, with_run_of, run_end, run_in, run_thread, turn_of_pick, world_turn}
-use Rattle.abi_calls.specs.Sound.{can_be_awaited, is_sound_wait, IsSoundObject, IsSound}
+use Rattle.abi_calls.specs.Sound.{can_be_awaited, is_sound_wait, IsSoundObject, IsSound, HasBytes}
 use Rattle.abi_calls.specs.Abi.{Abi, Answers, IsFreeChoice}
 use Rattle.abi_calls.proofs.NumberMaps.{get_other}
 use Rattle.abi_calls.proofs.Counts.{one_at, one_of, count_set}
 use Rattle.abi_calls.proofs.Facts.{RunsIn, live_positive, ready_thread}
-use Rattle.abi_calls.proofs.Effects.{Effects, Repages, Allocated, Protected, Written, has-Abi}
+use Rattle.abi_calls.proofs.Effects.{Effects, has-Abi}
+use Rattle.abi_calls.proofs.TurnFacts.{home_apart}
 use Rattle.abi_calls.proofs.SoundChanges.{Fits, IsSound-with_object, IsSound-with_thread, IsSound-with_lists, IsSound-with_resumed, IsSound-with_settings, IsSound-with_positions, IsSound-without_handles, object_at-left, was_there}
 
 -- ---- pages
@@ -53,26 +55,31 @@ is_none : {A : Type 0} (x : Option A) → is_some x ≡ false → x ≡ None
 is_none None e = refl
 is_none (Some a) e = absurd (cc)
 
-pub AreSoundPages-Repages : (old new : Space) → AreSoundPages old → Repages old new → AreSoundPages new
-AreSoundPages-Repages old _ sound (Allocated page count rights run small free room) =
-    let absent = λ (q : ℕ) (low : page ≤ q) (high : q < page + count). held_none (is_held old q) q (first_some_none_at (if_held old) page count q (is_none (first_held old page count) free) low high) in
-    let more = len-with_run old page count rights absent in
-    record { space = IsSpace-with_run old page count rights run (omega arith) sound.space; few = omega arith }
-AreSoundPages-Repages old _ sound (Protected page count rights small) =
-    let same = len-protected old page count rights in
+pub AreSoundPages-with_run : (s : Space) (page count rights : ℕ) → AreSoundPages s → is_run page count ≡ true → rights ≤ ALL_RIGHTS → is_some (first_held s page count) ≡ false → len s + count ≤ MOST_PAGES
+    → AreSoundPages (with_run s page count rights)
+AreSoundPages-with_run s page count rights sound run small free room =
+    let absent = λ (q : ℕ) (low : page ≤ q) (high : q < page + count). held_none (is_held s q) q (first_some_none_at (if_held s) page count q (is_none (first_held s page count) free) low high) in
+    let more = len-with_run s page count rights absent in
+    record { space = IsSpace-with_run s page count rights run (omega arith) sound.space; few = omega arith }
+
+pub AreSoundPages-protected : (s : Space) (page count rights : ℕ) → AreSoundPages s → rights ≤ ALL_RIGHTS → AreSoundPages (protected s page count rights)
+AreSoundPages-protected s page count rights sound small =
+    let same = len-protected s page count rights in
     let few = sound.few in
-    record { space = IsSpace-protected old page count rights (omega arith) sound.space; few = omega arith }
-AreSoundPages-Repages old _ sound (Written address bytes) =
-    let same = len-with_memory old (with_bytes (memory_of old) address bytes) in
+    record { space = IsSpace-protected s page count rights (omega arith) sound.space; few = omega arith }
+
+pub AreSoundPages-with_bytes : (s : Space) (address : ℕ) (bytes : List ℕ) → AreSoundPages s → All (λ byte. byte < 2 ^ 8) bytes → AreSoundPages (with_memory s (with_bytes (memory_of s) address bytes))
+AreSoundPages-with_bytes s address bytes sound small =
+    let memory = with_bytes (memory_of s) address bytes in
+    let same = len-with_memory s memory in
     let few = sound.few in
-    record { space = IsSpace-with_memory old (with_bytes (memory_of old) address bytes) sound.space; few = omega arith }
+    record { space = IsSpace-with_memory s memory (HasBytes-with_bytes (memory_of s) address bytes small (HasBytes-memory_of s sound.space)) sound.space; few = omega arith }
 
 pub AreSoundPages-run_space : (n : ℕ) (context : Context) (s : Space) → AreSoundPages s → AreSoundPages (run_space n context s).space
 AreSoundPages-run_space n context s sound =
-    let memory = (instructions n context (memory_of s)).memory in
-    let same = len-with_memory s memory in
+    let same = len-with_memory s (instructions n context (memory_of s)).memory in
     let few = sound.few in
-    record { space = IsSpace-with_memory s memory sound.space; few = omega arith }
+    record { space = IsSpace-run_space n context s sound.space; few = omega arith }
 
 process_pages : (o : Objects) (x : Option Object) (s : Space) → running x ≡ Some s → ((y : Object) → x ≡ Some y → IsSoundObject o y) → AreSoundPages s
 process_pages o None s runs sound = absurd (cc)
@@ -188,10 +195,6 @@ IsSound-with_fresh_thread o h p context s sound fresh runs room =
     let bound = sound.processes in
     IsSound-with_thread o h p context sound (fits_fresh o h (Thread p context) sound fresh home (omega arith) (omega arith)) (ap is_some_thread fresh.free)
 
--- A thread isn't its own process.
-home_apart : (o : Objects) (t p : ℕ) (context : Context) (s : Space) → RunsIn o t p context s → p ≡ t → ⊥
-home_apart o t p context s runs same = absurd (let e : None ≡ Some s = ap running (sym runs.thread) ∙ ap (λ q. running (object_at o q)) (sym same) ∙ runs.process in cc)
-
 -- A thread may have any registers.
 pub IsSound-with_registers : (o : Objects) (t p : ℕ) (old new : Context) → IsSound o → object_at o t ≡ Some (Thread p old) → IsSound (with_object o t (Thread p new))
 IsSound-with_registers o t p old new sound thread =
@@ -240,36 +243,41 @@ IsSound-exited o p code s sound runs =
 
 -- ---- calls
 
--- Whatever a call does, sound objects stay sound, where a new number is fresh.
+-- Whatever a call of bytes does, sound objects stay sound, where a new number is fresh.
 abbrev KeepsSound : World → Call → Reply → World → Type 0
-KeepsSound w call reply w' = IsFreeChoice w call reply → IsSound w'.objects
+KeepsSound w call reply w' = HasBytes call → IsFreeChoice w call reply → IsSound w'.objects
 
 effects : (w : World) → IsSound w.objects → Effects w (KeepsSound w)
 effects w sound = let o = w.objects in record {
-  stays = λ c r still choice. sound;
-  pages = λ c p old new changes runs repages choice. IsSound-with_pages o p old new sound runs (AreSoundPages-Repages old new (AreSoundPages-running o p old sound runs) repages);
-  makes_thread = λ h p context s runs room fresh. IsSound-with_fresh_thread o h p context s sound fresh runs room;
-  resumes = λ t p context thread rests choice. IsSound-with_resumed o t sound (ap is_some_thread thread) rests;
-  registers = λ t p old new thread rests choice. IsSound-with_registers o t p old new sound thread;
-  makes_event = λ h fresh. IsSound-with_new o h (Event false) sound fresh tt refl refl refl;
-  opens = λ h name create exclusive good fresh. IsSound-with_new o h (Stream name) sound fresh good refl refl refl;
-  makes_file = λ h name exclusive good absent fresh. IsSound-with_new o h (Stream (File name)) sound fresh good refl refl refl;
-  takes = λ s offset count is choice. sound;
-  writes_file = λ s offset bytes name is choice. sound;
-  writes_output = λ s offset bytes is choice. sound;
-  writes_errors = λ s offset bytes is choice. sound;
-  ends = λ h x is idle no_thread choice. IsSound-without_handles o (λ k. k == h) sound (λ k same. ap (λ q. running (object_at o q)) (eqb-true k h same) ∙ ap running is ∙ idle);
-  makes_process = λ h room fresh. IsSound-with_process o h sound fresh room;
-  exits = λ p code s runs choice. IsSound-exited o p code s sound runs;
-  configures = λ settings positions good first choice. IsSound-with_settings o settings positions sound good;
+  stays = λ c r still small choice. sound;
+  allocates = λ p page count rights old runs run rights_small free room small choice.
+      IsSound-with_pages o p old _ sound runs (AreSoundPages-with_run old page count rights (AreSoundPages-running o p old sound runs) run rights_small free room);
+  protects = λ p page count rights old runs rights_small small choice.
+      IsSound-with_pages o p old _ sound runs (AreSoundPages-protected old page count rights (AreSoundPages-running o p old sound runs) rights_small);
+  fills = λ p address bytes old runs small choice.
+      IsSound-with_pages o p old _ sound runs (AreSoundPages-with_bytes old address bytes (AreSoundPages-running o p old sound runs) small);
+  makes_thread = λ h p context s runs room small fresh. IsSound-with_fresh_thread o h p context s sound fresh runs room;
+  resumes = λ t p context thread rests small choice. IsSound-with_resumed o t sound (ap is_some_thread thread) rests;
+  registers = λ t p old new thread rests small choice. IsSound-with_registers o t p old new sound thread;
+  makes_event = λ h small fresh. IsSound-with_new o h (Event false) sound fresh tt refl refl refl;
+  opens = λ h name create exclusive good small fresh. IsSound-with_new o h (Stream name) sound fresh good refl refl refl;
+  makes_file = λ h name exclusive good absent small fresh. IsSound-with_new o h (Stream (File name)) sound fresh good refl refl refl;
+  takes = λ s offset count is small choice. sound;
+  writes_file = λ s offset bytes name is small choice. sound;
+  writes_output = λ s offset bytes is small choice. sound;
+  writes_errors = λ s offset bytes is small choice. sound;
+  ends = λ h x is idle no_thread small choice. IsSound-without_handles o (λ k. k == h) sound (λ k same. ap (λ q. running (object_at o q)) (eqb-true k h same) ∙ ap running is ∙ idle);
+  makes_process = λ h room small fresh. IsSound-with_process o h sound fresh room;
+  exits = λ p code s runs small choice. IsSound-exited o p code s sound runs;
+  configures = λ settings positions good first small choice. IsSound-with_settings o settings positions sound good;
 }
 
 -- A call leaves a sound world sound.
-pub IsSound-answer : (w w' : World) (call : Call) (r : Reply) → IsSound w.objects → Abi w call r w' → IsSound w'.objects
-IsSound-answer w w' call r sound abi = has-Abi w (KeepsSound w) (effects w sound) call r w' abi abi.choice
+pub IsSound-Abi : (w w' : World) (call : Call) (r : Reply) → IsSound w.objects → HasBytes call → Abi w call r w' → IsSound w'.objects
+IsSound-Abi w w' call r sound small abi = has-Abi w (KeepsSound w) (effects w sound) call r w' abi small abi.choice
 
-pub IsSound-answers : (o o' : Objects) (told told' : Told) (call : Call) (r : Reply) → IsSound o → Answers o told call r o' told' → IsSound o'
-IsSound-answers o o' told told' call r sound answers = IsSound-answer (world_of o answers.before) (world_of o' answers.after) call r sound answers.abi
+pub IsSound-Answers : (o o' : Objects) (told told' : Told) (call : Call) (r : Reply) → IsSound o → HasBytes call → Answers o told call r o' told' → IsSound o'
+IsSound-Answers o o' told told' call r sound small answers = IsSound-Abi (world_of o answers.before) (world_of o' answers.after) call r sound small answers.abi
 
 -- ---- turns
 
@@ -289,7 +297,7 @@ idle_sound o sound = elim (list_any (λ (w : Waiting). is_some w.deadline) o.lis
 IsSound-with_run_of : (o : Objects) (t p : ℕ) (context : Context) (s : Space) (run : Run) → IsSound o → RunsIn o t p context s → AreSoundPages run.space → IsSound (with_run_of o t p run)
 IsSound-with_run_of o t p context s run sound runs pages =
     let mid = with_pages o p run.space in
-    let thread : object_at mid t ≡ Some (Thread p context) = get_other o.live p (Process run.space None) t (λ same. home_apart o t p context s runs (sym same)) ∙ runs.thread in
+    let thread : object_at mid t ≡ Some (Thread p context) = get_other o.live p (Process run.space None) t (home_apart o t p context s runs) ∙ runs.thread in
     IsSound-with_registers mid t p context run.context (IsSound-with_pages o p s run.space sound runs.process pages) thread
 
 -- The thread left the ready list, and joins it again or is current.
