@@ -49,11 +49,11 @@ from_own m = same_numbers _ m (λ q. get-from_entries nat_cmp_total (entries m) 
 counted_by_head : (test : Object → Bool) (x : Object) (xs : List Object) → list_any test xs ≡ nat_lt 0 (count_by test xs) → (b : Bool) → test x ≡ b → (test x || list_any test xs) ≡ nat_lt 0 (count_by test (x ∷ xs))
 counted_by_head test x xs rest true is =
     let count = sum_by-cons (λ y. cond (test y) 1 0) x xs in
-    let one : cond (test x) 1 0 ≡ 1 = ap (λ b. cond b 1 0) is in
+    let one : ◌≡◌ {A = ℕ} (cond (test x) 1 0) 1 = ap (λ b. cond b 1 0) is in
     ap (λ b. b || list_any test xs) is ∙ sym (lt-ltb 0 (count_by test (x ∷ xs)) (omega (arith, count, one)))
 counted_by_head test x xs rest false is =
     let count = sum_by-cons (λ y. cond (test y) 1 0) x xs in
-    let none : cond (test x) 1 0 ≡ 0 = ap (λ b. cond b 1 0) is in
+    let none : ◌≡◌ {A = ℕ} (cond (test x) 1 0) 0 = ap (λ b. cond b 1 0) is in
     let same : count_by test xs ≡ count_by test (x ∷ xs) = omega (arith, count, none) in
     ap (λ b. b || list_any test xs) is ∙ rest ∙ ap (nat_lt 0) same
 
