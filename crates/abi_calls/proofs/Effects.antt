@@ -36,22 +36,14 @@ is_still (Handle h) = false
 is_still (Count n) = false
 is_still _ = true
 
--- The calls that change pages of a process.
-abbrev pub changes_pages : ℕ → Call → Bool
-changes_pages p (MemoryAllocate process page count rights) = process == p
-changes_pages p (MemoryProtect process page count rights) = process == p
-changes_pages p (MemoryWrite process address bytes) = process == p
-changes_pages p _ = false
-
--- What a call can make of pages.
-pub data Repages (old : Space) : Space → Type 0 where
-  Allocated : (page count rights : ℕ) → is_run page count ≡ true → rights ≤ ALL_RIGHTS → is_some (first_held old page count) ≡ false → len old + count ≤ MOST_PAGES → Repages old (with_run old page count rights)
-  Protected : (page count rights : ℕ) → rights ≤ ALL_RIGHTS → Repages old (protected old page count rights)
-  Written : (address : ℕ) (bytes : List ℕ) → Repages old (with_memory old (with_bytes (memory_of old) address bytes))
-
 pub record Effects (w : World) (P : Call → Reply → World → Type 0) : Type 0 where
   pub stays : (c : Call) (r : Reply) → is_still r ≡ true → P c r w
-  pub pages : (c : Call) (p : ℕ) (old new : Space) → changes_pages p c ≡ true → running (object_at w.objects p) ≡ Some old → Repages old new → P c Done (with_objects w (with_pages w.objects p new))
+  pub allocates : (p page count rights : ℕ) (old : Space) → running (object_at w.objects p) ≡ Some old → is_run page count ≡ true → rights ≤ ALL_RIGHTS → is_some (first_held old page count) ≡ false → len old + count ≤ MOST_PAGES
+      → P (MemoryAllocate p page count rights) Done (with_objects w (with_pages w.objects p (with_run old page count rights)))
+  pub protects : (p page count rights : ℕ) (old : Space) → running (object_at w.objects p) ≡ Some old → rights ≤ ALL_RIGHTS
+      → P (MemoryProtect p page count rights) Done (with_objects w (with_pages w.objects p (protected old page count rights)))
+  pub fills : (p address : ℕ) (bytes : List ℕ) (old : Space) → running (object_at w.objects p) ≡ Some old
+      → P (MemoryWrite p address bytes) Done (with_objects w (with_pages w.objects p (with_memory old (with_bytes (memory_of old) address bytes))))
   pub makes_thread : (h p : ℕ) (context : Context) (space : Space) → running (object_at w.objects p) ≡ Some space → number_of is_thread w.objects.live < MOST_THREADS → P (ThreadCreate p context) (Handle h) (with_objects w (with_thread w.objects h p context))
   pub resumes : (t p : ℕ) (context : Context) → object_at w.objects t ≡ Some (Thread p context) → is_resting w.objects.lists t ≡ true → P (ThreadResume t) Done (with_objects w (with_lists w.objects (with_resumed w.objects.lists t)))
   pub registers : (t p : ℕ) (old new : Context) → object_at w.objects t ≡ Some (Thread p old) → is_resting w.objects.lists t ≡ true → P (ThreadContext t new) Done (with_objects w (with_object w.objects t (Thread p new)))
@@ -108,7 +100,7 @@ module _ (w : World) (P : Call → Reply → World → Type 0) (e : Effects w P)
       chosen (On c) (is_some (first_held s page count)) (Exists, w.objects) _ (λ _. e.stays c Exists refl) (λ free.
       chosen (On c) (nat_lt MOST_PAGES (len s + count)) (NoRoom, w.objects) (Done, with_pages w.objects p (with_run s page count rights)) (λ _. e.stays c NoRoom refl) (λ room.
       let both = not_false (is_run page count && nat_le rights ALL_RIGHTS) good in
-      e.pages c p s _ (eq-eqb p p refl) is (Allocated page count rights (and_left (is_run page count) _ both) (leb-true rights ALL_RIGHTS (and_right (is_run page count) _ both)) free (ltb-false MOST_PAGES (len s + count) room)))))
+      e.allocates p page count rights s is (and_left (is_run page count) _ both) (leb-true rights ALL_RIGHTS (and_right (is_run page count) _ both)) free (ltb-false MOST_PAGES (len s + count) room))))
 
   protect_at : (p page count rights : ℕ) (memory : Option Space) → running (object_at w.objects p) ≡ memory → On (MemoryProtect p page count rights) (memory_protect_row w.objects p page count rights memory)
   protect_at p page count rights None is = e.stays _ BadHandle refl
@@ -116,7 +108,7 @@ module _ (w : World) (P : Call → Reply → World → Type 0) (e : Effects w P)
       let c = MemoryProtect p page count rights in
       chosen (On c) (count == 0 || (is_some (first_missing s page count) || nat_lt ALL_RIGHTS rights)) (BadAddress, w.objects) (Done, with_pages w.objects p (protected s page count rights)) (λ _. e.stays c BadAddress refl) (λ good.
       let right = or_right (is_some (first_missing s page count)) _ (or_right (count == 0) _ good) in
-      e.pages c p s _ (eq-eqb p p refl) is (Protected page count rights (ltb-false ALL_RIGHTS rights right)))
+      e.protects p page count rights s is (ltb-false ALL_RIGHTS rights right))
 
   unless_at : (c : Call) (fault : Option AccessFault) (granted : Reply × Objects) → On c granted → On c (unless_fault w.objects fault granted)
   unless_at c None granted at = at
@@ -137,7 +129,7 @@ module _ (w : World) (P : Call → Reply → World → Type 0) (e : Effects w P)
       let c = MemoryWrite p address bytes in
       let fault = first_fault (memory_of s) WRITE_RIGHT address (length bytes) in
       let granted : Reply × Objects = (Done, with_pages w.objects p (with_memory s (with_bytes (memory_of s) address bytes))) in
-      chosen (On c) (nat_lt MOST_BYTES (length bytes)) (TooBig, w.objects) (unless_fault w.objects fault granted) (λ _. e.stays c TooBig refl) (λ _. unless_at c fault granted (e.pages c p s _ (eq-eqb p p refl) is (Written address bytes)))
+      chosen (On c) (nat_lt MOST_BYTES (length bytes)) (TooBig, w.objects) (unless_fault w.objects fault granted) (λ _. e.stays c TooBig refl) (λ _. unless_at c fault granted (e.fills p address bytes s is))
 
   thread_at : (p : ℕ) (context : Context) (h : ℕ) (memory : Option Space) → running (object_at w.objects p) ≡ memory → On (ThreadCreate p context) (thread_create_row w.objects p context memory h)
   thread_at p context h None is = e.stays _ BadHandle refl

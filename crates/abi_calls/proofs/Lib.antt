@@ -3,4 +3,8 @@ pub mod Counts
 pub mod Effects
 pub mod PositionsKept
 pub mod Facts
+pub mod TurnFacts
+pub mod Worked
 pub mod SoundProp
+pub mod SoundChanges
+pub mod Sounds

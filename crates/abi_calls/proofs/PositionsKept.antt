@@ -24,7 +24,9 @@ Keeps w c r w' = is_configure c ≡ false → KeepsPositions w.objects w'.object
 effects : (w : World) → Effects w (Keeps w)
 effects w = record {
   stays = λ _ _ _ _. record { positions = refl; settings = refl };
-  pages = λ _ _ _ _ _ _ _ _. record { positions = refl; settings = refl };
+  allocates = λ _ _ _ _ _ _ _ _ _ _ _. record { positions = refl; settings = refl };
+  protects = λ _ _ _ _ _ _ _ _. record { positions = refl; settings = refl };
+  fills = λ _ _ _ _ _ _. record { positions = refl; settings = refl };
   makes_thread = λ _ _ _ _ _ _ _. record { positions = refl; settings = refl };
   resumes = λ _ _ _ _ _ _. record { positions = refl; settings = refl };
   registers = λ _ _ _ _ _ _ _. record { positions = refl; settings = refl };

@@ -1,6 +1,5 @@
 -- A world is sound in one way at most, so a value can keep that it is.
-use Rattle.std.specs.Prelude.{◌≡◌, ℕ, Bool, true, false, length, is_some}
-use Rattle.std.specs.Ordering.{nat_cmp}
+use Rattle.std.specs.Prelude.{◌≡◌, false, is_some}
 use Rattle.std.specs.FinMap.{empty}
 use Rattle.std.specs.FinMap as map
 use Rattle.std.specs.declared.option.Option.{Option}

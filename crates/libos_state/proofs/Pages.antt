@@ -8,10 +8,10 @@ use Rattle.std.specs.declared.option.Option.TheVariants.{None, Some}
 use Rattle.std.proofs.Common.{refl, sym, ap, ◌∙◌, arith, le-leb, leb-true, lt-ltb, ltb-true, le-ltb}
 use Rattle.std.proofs.lemmas.Bool.{and_from, and_parts, and_right, cond-true}
 use Rattle.std.proofs.lemmas.Bool.Decides.{nat_tests}
-use Rattle.guest_space.specs.Space.{Space, Frame, in_run, memory_of, with_run, protected, with_memory}
+use Rattle.guest_space.specs.Space.{Space, Frame, in_run, memory_of, page_rights, with_run, protected, with_memory}
 use Rattle.guest_space.specs.Run.{is_run, first_held, first_missing}
 use Rattle.guest_space.specs.Access.{first_fault, with_bytes}
-use Rattle.guest_space.proofs.Filling.{page_rights, page_rights-with_run, page_rights-protected, page_rights-with_memory, is_held-rights, len-with_run, len-protected, len-with_memory}
+use Rattle.guest_space.proofs.Filling.{page_rights-with_run, page_rights-protected, page_rights-with_memory, is_held-rights, len-with_run, len-protected, len-with_memory}
 use Rattle.rv_core.specs.Memory.{Memory}
 use Rattle.abi_calls.specs.declared.object.Object.TheVariants.{Process, Stream}
 use Rattle.abi_calls.specs.declared.reply.Reply.TheVariants.{Done, Exists, BadAddress, NoRoom, TooBig}
