@@ -8,3 +8,5 @@ pub mod Worked
 pub mod SoundProp
 pub mod SoundChanges
 pub mod Sounds
+pub mod RenamedObjects
+pub mod RenamedTurns

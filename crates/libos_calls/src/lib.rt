@@ -15,6 +15,3 @@ pub use begun::{boot, booted, exit_code};
 pub use calls::pending;
 pub use entered::enter;
 pub use replies::answered;
-
-#[cfg(test)]
-mod tests;

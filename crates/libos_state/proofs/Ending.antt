@@ -6,16 +6,16 @@ use Rattle.std.specs.declared.option.Option.{Option}
 use Rattle.std.specs.declared.option.Option.TheVariants.{None, Some}
 use Rattle.std.proofs.Common.{arith, refl, sym, ap, ◌∙◌, eq-eqb, ne_eqb}
 use Rattle.std.proofs.lemmas.Bool.{cond-true, cond-false, or_parts}
-use Rattle.abi_calls.specs.declared.object.Object.TheVariants.{Process, Thread, Event, Stream}
+use Rattle.turn_sched.specs.Lists.{contains, unless_ended}
+use Rattle.abi_calls.specs.declared.object.Object.TheVariants.{Process, Thread, Event, Stream, ReadEnd, WriteEnd}
 use Rattle.abi_calls.specs.declared.reply.Reply.{Reply}
 use Rattle.abi_calls.specs.declared.reply.Reply.TheVariants.{Done}
-use Rattle.abi_calls.specs.Objects.{Object, Objects, Live, object_at, running, contains, kept, is_thread_of, with_object, without_handles}
-use Rattle.abi_calls.specs.World.{World, with_objects}
-use Rattle.abi_calls.specs.Processes.{ended, closed, process_exit_row, without_threads}
+use Rattle.abi_calls.specs.Objects.{Object, Objects, Live, object_at, running, is_thread_of, with_object, without_handles}
+use Rattle.abi_calls.specs.World.{World, with_objects, on_objects}
+use Rattle.abi_calls.specs.Processes.{close_row, process_exit_row, without_threads}
 use Rattle.abi_calls.specs.Abi.{Abi}
 use Rattle.abi_calls.specs.Sound.{IsSound}
 use Rattle.abi_calls.proofs.NumberMaps.{get_same}
-use Rattle.abi_calls.proofs.SoundChanges.{without_at}
 use Rattle.mono_model.specs.Starting.{Runs}
 use Rattle.libos_state.specs.declared.cont.Cont.{Cont}
 use Rattle.libos_state.specs.declared.cont.Stage.TheVariants.{CloseHandles, ExitProcess}
@@ -30,6 +30,7 @@ use Rattle.libos_state.proofs.Rows.{holds_by}
 use Rattle.libos_state.proofs.Bases.{base_over}
 use Rattle.libos_state.proofs.Served.{Running, running_of, apart, closable_no_thread, closable_no_process}
 use Rattle.libos_state.proofs.Idle.{exit_code_is, fits_up}
+use Rattle.libos_state.proofs.Keeping.{object_at-without_handles}
 
 -- What the end of a process keeps of the objects.
 pub record KeepsEnding (o o' : Objects) (process thread : ℕ) : Type 0 where
@@ -77,12 +78,14 @@ closes_means os w c [] = refl
 closes_means os w c (h ∷ hs) = refl
 
 -- The rows.
-row_closed : (w : World) (h : ℕ) (x : Option Object) → is_closable x ≡ true → closed w h x ≡ ended w h
-row_closed w h None closable = absurd (cc)
-row_closed w h (Some (Process memory code)) closable = absurd (cc)
-row_closed w h (Some (Thread p context)) closable = absurd (cc)
-row_closed w h (Some (Event set)) closable = refl
-row_closed w h (Some (Stream name)) closable = refl
+row_closed : (o : Objects) (h : ℕ) (x : Option Object) → is_closable x ≡ true → close_row o h x ≡ (Done, without_handles o (λ k. k == h))
+row_closed o h None closable = absurd (cc)
+row_closed o h (Some (Process memory code)) closable = absurd (cc)
+row_closed o h (Some (Thread p context)) closable = absurd (cc)
+row_closed o h (Some (Event set)) closable = refl
+row_closed o h (Some (Stream name)) closable = refl
+row_closed o h (Some (ReadEnd pipe)) closable = absurd (cc)
+row_closed o h (Some (WriteEnd pipe)) closable = absurd (cc)
 
 -- The first of several handles that can be closed, and the others.
 front_closable : (live : Live) (hs : List ℕ) → hs ≢ [] → Closable live hs →
@@ -94,7 +97,7 @@ closable_without : (o : Objects) (h : ℕ) (hs : List ℕ) → contains hs h ≡
 closable_without o h [] absent closable = tt
 closable_without o h (x ∷ xs) absent closable =
     let parts = or_parts (x == h) (contains xs h) absent in
-    (ap is_closable (without_at o (λ k. k == h) x parts.0) ∙ closable.0, closable.1, closable_without o h xs parts.1 closable.2)
+    (ap is_closable (object_at-without_handles o (λ k. k == h) x parts.0) ∙ closable.0, closable.1, closable_without o h xs parts.1 closable.2)
 
 module _ (os : LibOs) (c : Cont) (w : World) (fits : FitsEnding os w.objects c) (h : ℕ) (closable : is_closable (object_at w.objects h) ≡ true) where
   abbrev closed_objects : Objects
@@ -110,15 +113,15 @@ module _ (os : LibOs) (c : Cont) (w : World) (fits : FitsEnding os w.objects c) 
 
   closed_keeps : KeepsEnding w.objects closed_objects fits.upcall.process fits.upcall.thread
   closed_keeps = record {
-    process_stays = without_at w.objects (λ k. k == h) fits.upcall.process (ne_eqb fits.upcall.process h process_apart);
-    thread_stays = without_at w.objects (λ k. k == h) fits.upcall.thread (ne_eqb fits.upcall.thread h thread_apart);
+    process_stays = object_at-without_handles w.objects (λ k. k == h) fits.upcall.process (ne_eqb fits.upcall.process h process_apart);
+    thread_stays = object_at-without_handles w.objects (λ k. k == h) fits.upcall.thread (ne_eqb fits.upcall.thread h thread_apart);
     ready = ap (filter (λ k. not (k == h))) fits.ready;
     suspended = ap (filter (λ k. not (k == h))) fits.suspended;
-    current = ap (kept (λ k. k == h)) fits.current ∙ cond-false (fits.upcall.thread == h) None (Some fits.upcall.thread) (ne_eqb fits.upcall.thread h thread_apart);
+    current = ap (unless_ended (λ k. k == h)) fits.current ∙ cond-false (fits.upcall.thread == h) None (Some fits.upcall.thread) (ne_eqb fits.upcall.thread h thread_apart);
   }
 
   closed_base : base os (with_objects w closed_objects) ≡ base os w
-  closed_base = base_over os w fits.process fits.code closed_objects.live closed_objects.ready fits.processes fits.ended fits.threads closed_keeps.ready fits.ready
+  closed_base = base_over os w fits.process fits.code closed_objects.live closed_objects.lists.ready fits.processes fits.ended fits.threads closed_keeps.ready fits.ready
 
 pub keeps_close_handles : (os : LibOs) (c : Cont) (w w' : World) (r : Reply) → FitsClosing os w.objects c → IsSound w.objects → Abi w (asked os c CloseHandles) r w' → Holds os c CloseHandles w r w'
 keeps_close_handles os c w w' r fits sound abi =
@@ -126,7 +129,7 @@ keeps_close_handles os c w w' r fits sound abi =
     let front = front_closable w.objects.live c.handles fits.some fits.closable in
     let after : Objects = without_handles w.objects (λ k. k == h) in
     let ending : FitsEnding os after c = ending_over os os.cont w.objects after c c refl refl fits.ending (closed_keeps os c w fits.ending h front.0) in
-    holds_by os c CloseHandles w w' r (Done, with_objects w after) abi (row_closed w h (object_at w.objects h) front.0) (record {
+    holds_by os c CloseHandles w w' r (Done, with_objects w after) abi (ap (on_objects w) (row_closed w.objects h (object_at w.objects h) front.0)) (record {
       fits = closes_fits os after c (drop 1 c.handles) ending (closable_without w.objects h (drop 1 c.handles) front.1 front.2);
       means = closes_means os (with_objects w after) c (drop 1 c.handles) ∙ ap Runs (closed_base os c w fits.ending h front.0);
     })
@@ -169,17 +172,17 @@ module _ (os : LibOs) (c : Cont) (w : World) (fits : FitsEnding os w.objects c) 
     descriptions = fits.descriptions;
     ready = ap (filter (λ k. not (is_thread_of exiting (object_at w.objects k)))) fits.ready;
     suspended = ap (filter (λ k. not (is_thread_of exiting (object_at w.objects k)))) fits.suspended;
-    current = ap (kept (λ k. is_thread_of exiting (object_at w.objects k))) fits.current
+    current = ap (unless_ended (λ k. is_thread_of exiting (object_at w.objects k))) fits.current
         ∙ cond-true (is_thread_of exiting (object_at w.objects fits.upcall.thread)) None (Some fits.upcall.thread) thread_ends;
   }
 
   exited_base : base os (with_objects w exited_objects) ≡ base os w
-  exited_base = base_over os w fits.process fits.code exited_objects.live exited_objects.ready fits.processes fits.ended fits.threads exited_over.ready fits.ready
+  exited_base = base_over os w fits.process fits.code exited_objects.live exited_objects.lists.ready fits.processes fits.ended fits.threads exited_over.ready fits.ready
 
 pub keeps_exit_process : (os : LibOs) (c : Cont) (w w' : World) (r : Reply) → FitsEnding os w.objects c → IsSound w.objects → Abi w (asked os c ExitProcess) r w' → Holds os c ExitProcess w r w'
 keeps_exit_process os c w w' r fits sound abi =
     let after : World = with_objects w (exited_objects os c w fits) in
-    let row = ap (process_exit_row w (upcall_in c.event).process (number c 0 % 256)) (runs_still os c w fits).runs in
+    let row = ap (λ x. on_objects w (process_exit_row w.objects (upcall_in c.event).process (number c 0 % 256) x)) (runs_still os c w fits).runs in
     holds_by os c ExitProcess w w' r (Done, after) abi row (record {
       fits = fits_up (ends os) after.objects (Some fits.code) fits.up (exit_code_is os fits.process (Some fits.code) fits.processes fits.first fits.ended) (exited_over os c w fits);
       means = ap (meant_idle (ends os) after) fits.up ∙ ap Runs (exited_base os c w fits);

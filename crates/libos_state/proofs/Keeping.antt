@@ -5,16 +5,17 @@ use Rattle.std.specs.Ordering.{nat_cmp}
 use Rattle.std.specs.FinMap.{get, insert}
 use Rattle.std.specs.declared.option.Option.{Option}
 use Rattle.std.specs.declared.option.Option.TheVariants.{None, Some}
-use Rattle.std.proofs.Common.{refl, sym, ap, subst, ◌∙◌}
-use Rattle.std.proofs.lemmas.Option.{none-some}
+use Rattle.std.proofs.Common.{refl, sym, ap, subst, ◌∙◌, eqb-true}
+use Rattle.std.proofs.lemmas.Option.{none-some, same_Some}
+use Rattle.rv_core.specs.declared.context.Context.{Context}
 use Rattle.abi_calls.specs.declared.call.Call.{Call}
-use Rattle.abi_calls.specs.declared.object.Object.TheVariants.{Process, Thread, Event, Stream}
+use Rattle.abi_calls.specs.declared.object.Object.TheVariants.{Process, Thread}
 use Rattle.abi_calls.specs.declared.reply.Reply.{Reply}
 use Rattle.abi_calls.specs.declared.reply.Reply.TheVariants.{Handle}
-use Rattle.abi_calls.specs.Objects.{Object, Objects, Live, number_of, is_process, without_handles, IsFresh}
+use Rattle.abi_calls.specs.Objects.{Object, Objects, Live, object_at, number_of, is_process, is_thread, without_handles, IsFresh}
 use Rattle.abi_calls.specs.World.{World, Answer}
 use Rattle.abi_calls.specs.Processes.{is_running}
-use Rattle.abi_calls.specs.Abi.{Abi, IsNew, answer}
+use Rattle.abi_calls.specs.Abi.{Abi, IsFreeChoice, answer}
 use Rattle.abi_calls.proofs.Counts.{count_none}
 use Rattle.abi_calls.proofs.NumberMaps.{get_set, get_other, get_kept}
 use Rattle.mono_model.specs.Starting.{Started}
@@ -24,7 +25,7 @@ use Rattle.libos_state.specs.declared.state.LibOs.{LibOs}
 use Rattle.libos_state.specs.Pending.{asked}
 use Rattle.libos_state.specs.Answered.{next}
 use Rattle.libos_state.specs.Meaning.{meaning, meant_at}
-use Rattle.libos_state.specs.Fits.{Fits, NoneLive, passes}
+use Rattle.libos_state.specs.Fits.{Fits, NoneLive, IsLoneThread, passes}
 use Rattle.libos_state.proofs.Holds.{Holds}
 use Rattle.libos_state.proofs.Rows.{holds_by}
 
@@ -39,14 +40,18 @@ pub by_row : (os : LibOs) (c : Cont) (stage : Stage) (w w' : World) (r : Reply) 
 by_row os c stage w w' r x abi row stands = holds_by os c stage w w' r x abi row (record { fits = stands.fits; means = stands.means })
 
 -- A handle that is given is fresh.
-pub drawn_new : (w w' : World) (call : Call) (r : Reply) (h : ℕ) (made : World) → Abi w call r w' → answer w call r ≡ (Handle h, made) → IsFresh w.objects h
-drawn_new w w' call r h made abi row =
+pub fresh_handle : (w w' : World) (call : Call) (r : Reply) (h : ℕ) (made : World) → Abi w call r w' → answer w call r ≡ (Handle h, made) → IsFresh w.objects h
+fresh_handle w w' call r h made abi row =
     let is : Handle h ≡ r = ap (λ (x : Answer). x.0) (sym row ∙ abi.row) in
-    subst (IsNew w.objects) (sym is) abi.new
+    subst (IsFreeChoice w call) (sym is) abi.choice
 
 -- An object stays where another comes at a number of none.
 pub object_kept : (live : Live) (h a : ℕ) (x y : Object) → get {R = nat_cmp} live h ≡ None → get {R = nat_cmp} live a ≡ Some x → get {R = nat_cmp} (insert live h y) a ≡ Some x
 object_kept live h a x y free there = get_other live h y a (λ same. none-some x (sym free ∙ ap (get {R = nat_cmp} live) (sym same) ∙ there)) ∙ there
+
+-- An object stays where others end.
+pub object_at-without_handles : (o : Objects) (ends : ℕ → Bool) (q : ℕ) → ends q ≡ false → object_at (without_handles o ends) q ≡ object_at o q
+object_at-without_handles o ends q stays = get_kept o.live (λ k. not (ends k)) q ∙ ap (λ b. cond (not b) (object_at o q) None) stays
 
 -- No object passes a test: also where one comes that doesn't, or some go.
 module _ (test : Object → Bool) where
@@ -67,12 +72,25 @@ module _ (test : Object → Bool) where
   pub number_none : (live : Live) → NoneLive test live → number_of test live ≡ 0
   number_none live none = count_none test live (λ q x is. sym (ap (passes test) is) ∙ none q)
 
+-- The one thread stays alone where another object comes, unless that is a second thread.
+module _ (t h : ℕ) (x : Object) (same : (p : ℕ) (context : Context) → x ≡ Thread p context → h ≡ t) where
+  lone_at : (q p : ℕ) (context : Context) (y : Option Object) (b : Bool) → (q == h) ≡ b → (y ≡ Some (Thread p context) → q ≡ t) →
+      cond b (Some x) y ≡ Some (Thread p context) → q ≡ t
+  lone_at q p context y true at alone is = eqb-true q h at ∙ same p context (same_Some x (Thread p context) is)
+  lone_at q p context y false at alone is = alone is
+
+  pub IsLoneThread-insert : (live : Live) → IsLoneThread live t → IsLoneThread (insert live h x) t
+  IsLoneThread-insert live alone q p context is =
+      lone_at q p context (get {R = nat_cmp} live q) (q == h) refl (alone q p context) (sym (get_set live h x q) ∙ is)
+
+-- Where there is no thread, none is there beside any.
+pub IsLoneThread-none : (live : Live) (t : ℕ) → NoneLive is_thread live → IsLoneThread live t
+IsLoneThread-none live t none q p context is = absurd (let e : true ≡ false = sym (ap (passes is_thread) is) ∙ none q in cc)
+
 -- Where there is no process, none runs.
 unmade_idle : (x : Object) → is_process x ≡ false → is_running x ≡ false
 unmade_idle (Process memory code) none = absurd (cc)
-unmade_idle (Thread process context) none = refl
-unmade_idle (Event set) none = refl
-unmade_idle (Stream name) none = refl
+unmade_idle _ none = refl
 
 pub none_runs : (live : Live) → NoneLive is_process live → number_of is_running live ≡ 0
 none_runs live none = count_none is_running live (λ q x is. unmade_idle x (sym (ap (passes is_process) is) ∙ none q))

@@ -15,7 +15,7 @@ use Rattle.abi_calls.specs.declared.object.Object.TheVariants.{Process}
 use Rattle.abi_calls.specs.declared.reply.Reply.{Reply}
 use Rattle.abi_calls.specs.declared.reply.Reply.TheVariants.{Done}
 use Rattle.abi_calls.specs.Objects.{object_at}
-use Rattle.abi_calls.specs.World.{World}
+use Rattle.abi_calls.specs.World.{World, with_objects, on_objects}
 use Rattle.abi_calls.specs.Memory.{with_pages}
 use Rattle.abi_calls.specs.Abi.{Abi, answer}
 use Rattle.abi_calls.specs.Sound.{IsSound}
@@ -69,9 +69,9 @@ keeps_allocate_run os c w w' r fits sound abi =
     let none = first_held-none empty 16 count (λ q _ _. ap (λ (x : Option Frame). option_map (λ (f : Frame). f.rights) x) (get_none q)) in
     let room : len {X = Frame} empty + count ≤ 1024 = let zero_pages = len-empty nat_cmp Frame in omega arith in
     let new = with_run empty 16 count 3 in
-    let row : answer w (asked os c AllocateRun) r ≡ (Done, with_pages w p new) = allocate_row w p empty there 16 count 3 (program_run count some few) refl none room in
+    let row : answer w (asked os c AllocateRun) r ≡ (Done, with_objects w (with_pages w.objects p new)) = ap (on_objects w) (allocate_row w.objects p empty there 16 count 3 (program_run count some few) refl none room) in
     let has : HasPages new (page_count c.bytes) 3 0 = subst (λ n. HasPages (with_run empty 16 n 3) (page_count c.bytes) 3 0) (sym size.pages) (pages_made (page_count c.bytes)) in
-    by_row os c AllocateRun w w' r (Done, with_pages w p new) abi row
+    by_row os c AllocateRun w w' r (Done, with_objects w (with_pages w.objects p new)) abi row
     (record {
       fits = record { pages = pages_go_on os w.objects c WriteRun (0 ∷ 0 ∷ []) new 3 0 fits.child has; written = 0; kept = refl; more = more };
       means = ap (λ s. begins_with w c (stacked (with_rights_of (filled_from s 65536 (run_in c).bytes) (run_in c)) (arguments c))) (child_is w.objects p new)
@@ -99,7 +99,7 @@ rest_short n k bytes whole = omega (arith, length-take k (drop n bytes), length-
 -- With bytes left to be written the next piece follows, and else the rights.
 run_stands : (os : LibOs) (c : Cont) (w : World) (b : Bool) → FitsWriting os w.objects c → nat_lt (number c 1 + length (run_piece c)) (length (run_in c).bytes) ≡ b →
     Stands (goes_on os (if b then starting c WriteRun c.bytes c.handles (0 ∷ (number c 1 + length (run_piece c)) ∷ []) else starting c ProtectRun c.bytes c.handles (0 ∷ [])))
-    (with_pages w (file_or_child c) (filled_from (child_memory w c) (65536 + number c 1) (run_piece c))) (meant_at os w c WriteRun)
+    (with_objects w (with_pages w.objects (file_or_child c) (filled_from (child_memory w c) (65536 + number c 1) (run_piece c)))) (meant_at os w c WriteRun)
 run_stands os c w true fits more =
     let new = filled_from (child_memory w c) (65536 + number c 1) (run_piece c) in
     let has = subst (λ s. HasPages s (page_count c.bytes) 3 0) (sym (child_was w c fits.pages.child.memory fits.pages.child.child)) fits.pages.pages in
@@ -138,8 +138,8 @@ keeps_write_run os c w w' r fits sound abi =
     let more = fits.more in
     let whole = size.bytes in
     let free = first_fault-none (child_memory w c) 16 (page_count c.bytes) 3 2 (65536 + number c 1) (length (run_piece c)) (λ q low high. has_program (child_memory w c) (page_count c.bytes) 3 0 q has low high) refl (omega arith) (omega arith) in
-    let row : answer w (asked os c WriteRun) r ≡ (Done, with_pages w p (filled_from (child_memory w c) (65536 + number c 1) (run_piece c))) = write_row w p (child_memory w c) there (65536 + number c 1) (run_piece c) (omega arith) free in
-    by_row os c WriteRun w w' r (Done, with_pages w p (filled_from (child_memory w c) (65536 + number c 1) (run_piece c))) abi row
+    let row : answer w (asked os c WriteRun) r ≡ (Done, with_objects w (with_pages w.objects p (filled_from (child_memory w c) (65536 + number c 1) (run_piece c)))) = ap (on_objects w) (write_row w.objects p (child_memory w c) there (65536 + number c 1) (run_piece c) (omega arith) free) in
+    by_row os c WriteRun w w' r (Done, with_objects w (with_pages w.objects p (filled_from (child_memory w c) (65536 + number c 1) (run_piece c)))) abi row
     (run_stands os c w (nat_lt (number c 1 + length (run_piece c)) (length (run_in c).bytes)) fits refl)
 
 -- ---- the pages get their rights
@@ -153,9 +153,9 @@ keeps_protect_run os c w w' r fits sound abi =
     let some : (count == 0) ≡ false = ne_eqb count 0 (λ none. let pages = size.pages in let least = size.some in omega arith) in
     let held = first_missing-none s 16 count 3 (λ q low high. has_program s (page_count c.bytes) 3 0 q fits.pages low (let pages = size.pages in omega arith)) in
     let new = protected s 16 count 7 in
-    let row : answer w (asked os c ProtectRun) r ≡ (Done, with_pages w p new) = protect_row w p s fits.child.child 16 count 7 some held refl in
+    let row : answer w (asked os c ProtectRun) r ≡ (Done, with_objects w (with_pages w.objects p new)) = ap (on_objects w) (protect_row w.objects p s fits.child.child 16 count 7 some held refl) in
     let has : HasPages new (page_count c.bytes) 7 0 = subst (λ n. HasPages (protected s 16 n 7) (page_count c.bytes) 7 0) (sym size.pages) (pages_protected s (page_count c.bytes) fits.pages) in
-    by_row os c ProtectRun w w' r (Done, with_pages w p new) abi row
+    by_row os c ProtectRun w w' r (Done, with_objects w (with_pages w.objects p new)) abi row
     (record {
       fits = pages_go_on os w.objects c AllocateStack [] new 7 0 fits.child has;
       means = ap (λ m. begins_with w c (stacked m (arguments c))) (child_is w.objects p new)

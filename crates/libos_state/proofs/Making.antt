@@ -3,17 +3,18 @@ use Rattle.std.specs.Prelude.{◌≡◌, ℕ, ◌+◌, ◌≤◌, ◌<◌, false
 use Rattle.std.specs.Ordering.{nat_cmp}
 use Rattle.std.specs.FinMap.{get, insert, empty}
 use Rattle.std.specs.declared.option.Option.TheVariants.{None, Some}
-use Rattle.std.proofs.Common.{refl, sym, ap, ◌∙◌, arith}
+use Rattle.std.proofs.Common.{refl, sym, ap, subst, ◌∙◌, arith}
 use Rattle.std.proofs.lemmas.List.{length_push, get_or_push, get_or_append_left}
 use Rattle.rv_core.specs.declared.context.Context.{Context}
 use Rattle.guest_space.specs.Space.{Space}
+use Rattle.abi_calls.specs.declared.limits.TheConstants.{MOST_PROCESSES, MOST_THREADS}
 use Rattle.abi_calls.specs.declared.object.Object.TheVariants.{Process, Thread, Event}
 use Rattle.abi_calls.specs.declared.reply.Reply.{Reply}
 use Rattle.abi_calls.specs.declared.reply.Reply.TheVariants.{Handle, NoRoom}
 use Rattle.abi_calls.specs.Objects.{Object, Objects, Live, object_at, running, number_of, is_process, is_thread, with_object}
-use Rattle.abi_calls.specs.World.{World, Answer, with_objects}
+use Rattle.abi_calls.specs.World.{World, with_objects, on_objects}
 use Rattle.abi_calls.specs.Processes.{process_create_row}
-use Rattle.abi_calls.specs.Threads.{thread_create_row}
+use Rattle.abi_calls.specs.Threads.{with_thread, thread_create_row}
 use Rattle.abi_calls.specs.Abi.{Abi, answer, new_number}
 use Rattle.abi_calls.specs.Sound.{IsSound}
 use Rattle.abi_calls.proofs.NumberMaps.{get_same}
@@ -25,9 +26,9 @@ use Rattle.libos_state.specs.declared.state.LibOs.{LibOs}
 use Rattle.libos_state.specs.Records.{memory_of_object, context_of}
 use Rattle.libos_state.specs.Pending.{arguments, asked, handle, file_or_child, run_in}
 use Rattle.libos_state.specs.Meaning.{unstarted, begins, begins_with}
-use Rattle.libos_state.specs.Fits.{FitsStage, Opened}
+use Rattle.libos_state.specs.Fits.{FitsStage, IsLoneThread, Opened}
 use Rattle.libos_state.proofs.Holds.{Holds}
-use Rattle.libos_state.proofs.Keeping.{by_row, drawn_new, object_kept, none_set, number_none}
+use Rattle.libos_state.proofs.Keeping.{by_row, fresh_handle, object_kept, IsLoneThread-insert, IsLoneThread-none, none_set, number_none}
 use Rattle.libos_state.proofs.Starts.{start_goes_on, opened_with, opened_longer}
 
 -- One more handle, of a new object: those before it name what they named.
@@ -54,8 +55,8 @@ made_behind live handles h x free long opened =
 
 -- ---- a process
 
-process_row : (w : World) (h : ℕ) → number_of is_process w.objects.live ≡ 0 → process_create_row w h ≡ (Handle h, with_objects w (with_object w.objects h (Process empty None)))
-process_row w h none = ap {B = Answer} (λ n. if nat_le 16 n then (NoRoom, w) else (Handle h, with_objects w (with_object w.objects h (Process empty None)))) none
+process_row : (o : Objects) (h : ℕ) → number_of is_process o.live ≡ 0 → process_create_row o h ≡ (Handle h, with_object o h (Process empty None))
+process_row o h none = ap {B = Reply × Objects} (λ n. if nat_le MOST_PROCESSES n then (NoRoom, o) else (Handle h, with_object o h (Process empty None))) none
 
 pub keeps_create_process : (os : LibOs) (c : Cont) (w w' : World) (r : Reply) → FitsStage os w.objects c CreateProcess → IsSound w.objects → Abi w (asked os c CreateProcess) r w' → Holds os c CreateProcess w r w'
 keeps_create_process os c w w' r fits sound abi =
@@ -64,8 +65,8 @@ keeps_create_process os c w w' r fits sound abi =
     let o = with_object w.objects h child in
     let handles = c.handles ++ h ∷ [] in
     let count = fits.opening.count in
-    let row : answer w (asked os c CreateProcess) r ≡ (Handle h, with_objects w o) = process_row w h (number_none is_process w.objects.live fits.opening.no_process) in
-    let fresh = drawn_new w w' (asked os c CreateProcess) r h (with_objects w o) abi row in
+    let row : answer w (asked os c CreateProcess) r ≡ (Handle h, with_objects w o) = ap (on_objects w) (process_row w.objects h (number_none is_process w.objects.live fits.opening.no_process)) in
+    let fresh = fresh_handle w w' (asked os c CreateProcess) r h (with_objects w o) abi row in
     let made = made_behind w.objects.live c.handles h child fresh.free (omega arith) fits.opening.opened in
     let there : object_at o (slice_index handles 3) ≡ Some child = ap (λ n. object_at o (slice_index handles n)) (sym count) ∙ made.there in
     by_row os c CreateProcess w w' r (Handle h, with_objects w o) abi row
@@ -89,11 +90,11 @@ keeps_create_process os c w w' r fits sound abi =
 
 -- ---- a thread
 
-thread_row : (w : World) (p h : ℕ) (context : Context) (memory : Space) → object_at w.objects p ≡ Some (Process memory None) → number_of is_thread w.objects.live ≡ 0 →
-    thread_create_row w p context (running (object_at w.objects p)) h ≡ (Handle h, with_objects w (record (with_object w.objects h (Thread p context)) { suspended = w.objects.lists.suspended ++ h ∷ [] }))
-thread_row w p h context memory there none =
-    ap (λ x. thread_create_row w p context (running x) h) there
-    ∙ ap {B = Answer} (λ n. if nat_le 64 n then (NoRoom, w) else (Handle h, with_objects w (record (with_object w.objects h (Thread p context)) { suspended = w.objects.lists.suspended ++ h ∷ [] }))) none
+thread_row : (o : Objects) (p h : ℕ) (context : Context) (memory : Space) → object_at o p ≡ Some (Process memory None) → number_of is_thread o.live ≡ 0 →
+    thread_create_row o p context (running (object_at o p)) h ≡ (Handle h, with_thread o h p context)
+thread_row o p h context memory there none =
+    ap (λ x. thread_create_row o p context (running x) h) there
+    ∙ ap {B = Reply × Objects} (λ n. if nat_le MOST_THREADS n then (NoRoom, o) else (Handle h, with_thread o h p context)) none
 
 pub keeps_create_thread : (os : LibOs) (c : Cont) (w w' : World) (r : Reply) → FitsStage os w.objects c CreateThread → IsSound w.objects → Abi w (asked os c CreateThread) r w' → Holds os c CreateThread w r w'
 keeps_create_thread os c w w' r fits sound abi =
@@ -101,11 +102,12 @@ keeps_create_thread os c w w' r fits sound abi =
     let p = file_or_child c in
     let context = start_context (plain_program c.bytes) (arguments c) in
     let thread : Object = Thread p context in
-    let o : Objects = record (with_object w.objects h thread) { suspended = w.objects.lists.suspended ++ h ∷ [] } in
+    let o = with_thread w.objects h p context in
     let handles = c.handles ++ h ∷ [] in
     let count = fits.count in
-    let row : answer w (asked os c CreateThread) r ≡ (Handle h, with_objects w o) = thread_row w p h context fits.memory fits.child (number_none is_thread w.objects.live fits.no_thread) in
-    let fresh = drawn_new w w' (asked os c CreateThread) r h (with_objects w o) abi row in
+    let row : answer w (asked os c CreateThread) r ≡ (Handle h, with_objects w o) =
+    ap (on_objects w) (thread_row w.objects p h context fits.memory fits.child (number_none is_thread w.objects.live fits.no_thread)) in
+    let fresh = fresh_handle w w' (asked os c CreateThread) r h (with_objects w o) abi row in
     let made = made_behind w.objects.live c.handles h thread fresh.free (omega arith) fits.opened in
     let home : slice_index handles 3 ≡ p = made.before 3 (omega arith) in
     let child : object_at o (slice_index handles 3) ≡ Some (Process fits.memory None) = made.stays 3 (Process fits.memory None) (omega arith) fits.child in
@@ -121,6 +123,7 @@ keeps_create_thread os c w w' r fits sound abi =
         child = child;
         context = context;
         thread = there ∙ ap (λ q. Some (Thread q context)) (sym home);
+        alone = IsLoneThread-insert (slice_index handles 4) h thread (λ _ _ _. sym last) w.objects.live (IsLoneThread-none w.objects.live (slice_index handles 4) fits.no_thread);
         suspended = ap (λ ts. ts ++ h ∷ []) fits.suspended ∙ ap (λ t. t ∷ []) (sym last);
       };
       means = (λ i. begins w (memory_of_object (child i)) (context_of (there i))) ∙ sym (ap (λ x. begins w (memory_of_object x) context) fits.child);
@@ -135,7 +138,7 @@ keeps_create_event os c w w' r fits sound abi =
     let o = with_object w.objects h event in
     let handles = c.handles ++ h ∷ [] in
     let count = fits.count in
-    let fresh = drawn_new w w' (asked os c CreateEvent) r h (with_objects w o) abi refl in
+    let fresh = fresh_handle w w' (asked os c CreateEvent) r h (with_objects w o) abi refl in
     let made = made_behind w.objects.live c.handles h event fresh.free (omega arith) fits.opened in
     let home : slice_index handles 3 ≡ file_or_child c = made.before 3 (omega arith) in
     let same : slice_index handles 4 ≡ handle c 4 = made.before 4 (omega arith) in
@@ -152,6 +155,7 @@ keeps_create_event os c w w' r fits sound abi =
           child = child;
           context = fits.context;
           thread = thread ∙ ap (λ q. Some (Thread q fits.context)) (sym home);
+          alone = IsLoneThread-insert (slice_index handles 4) h event (λ _ _ other. absurd (cc)) w.objects.live (subst (IsLoneThread w.objects.live) (sym same) fits.alone);
           suspended = fits.suspended ∙ ap (λ t. t ∷ []) (sym same);
         };
         set = false;

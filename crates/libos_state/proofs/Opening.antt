@@ -14,8 +14,8 @@ use Rattle.abi_calls.specs.declared.reply.Reply.TheVariants.{Done, Handle, NotFo
 use Rattle.abi_calls.specs.declared.settings.Positions.{Positions}
 use Rattle.abi_calls.specs.declared.settings.Settings.{Settings}
 use Rattle.abi_calls.specs.Objects.{Objects, object_at, number_of, with_object}
-use Rattle.abi_calls.specs.World.{World, with_objects}
-use Rattle.abi_calls.specs.Streams.{stream_of, opened, stream_open_row, file_opened}
+use Rattle.abi_calls.specs.World.{World, Answer, with_objects, on_objects}
+use Rattle.abi_calls.specs.Streams.{stream_of, open_answer, named, open_found, stream_open_row}
 use Rattle.abi_calls.specs.Processes.{is_running, is_acceptable, configure_row}
 use Rattle.abi_calls.specs.Abi.{Abi, answer, new_number}
 use Rattle.abi_calls.specs.Sound.{IsSound}
@@ -30,24 +30,24 @@ use Rattle.libos_state.specs.Answered.{goes_on, starting}
 use Rattle.libos_state.specs.Meaning.{unstarted, job_in, name_in}
 use Rattle.libos_state.specs.Fits.{FitsStart, FitsOpening, FitsStage, Opened}
 use Rattle.libos_state.proofs.Holds.{Holds}
-use Rattle.libos_state.proofs.Keeping.{Stands, by_row, drawn_new, none_runs}
+use Rattle.libos_state.proofs.Keeping.{Stands, by_row, fresh_handle, none_runs}
 use Rattle.libos_state.proofs.Starts.{IsUnbegun, unbegun_opening, unbegun_opened, opening_goes_on, opened_with, opened_more, opened_longer}
 
 -- ---- the host gets the settings
 
-configure_row : (w : World) (settings : Settings) (positions : Positions) → is_acceptable settings ≡ true → w.objects.positions.turns ≡ 0 → number_of is_running w.objects.live ≡ 0 →
-    configure_row w settings positions ≡ (Done, with_objects w (record w.objects { settings = settings; positions = positions }))
-configure_row w settings positions acceptable unturned idle = λ i.
-    if not (acceptable i) then (TooBig, w)
-    else (if not (unturned i == 0) || nat_lt 0 (idle i) then (Busy, w)
-    else (Done, with_objects w (record w.objects { settings = settings; positions = positions })))
+row_configured : (o : Objects) (settings : Settings) (positions : Positions) → is_acceptable settings ≡ true → o.positions.turns ≡ 0 → number_of is_running o.live ≡ 0 →
+    configure_row o settings positions ≡ (Done, record o { settings = settings; positions = positions })
+row_configured o settings positions acceptable unturned idle = λ i.
+    if not (acceptable i) then (TooBig, o)
+    else (if not (unturned i == 0) || nat_lt 0 (idle i) then (Busy, o)
+    else (Done, record o { settings = settings; positions = positions }))
 
 pub keeps_configure : (os : LibOs) (c : Cont) (w w' : World) (r : Reply) → FitsStage os w.objects c stage.Configure → IsSound w.objects → Abi w (asked os c stage.Configure) r w' → Holds os c stage.Configure w r w'
 keeps_configure os c w w' r fits sound abi =
     let o : Objects = record w.objects { settings = os.settings; positions = no_positions } in
     let unbegun : IsUnbegun o = record { ready = fits.start.ready; suspended = fits.suspended; current = fits.start.current; no_process = fits.no_process; no_thread = fits.no_thread } in
     by_row os c stage.Configure w w' r (Done, with_objects w o) abi
-    (configure_row w os.settings no_positions fits.settings fits.unturned (none_runs w.objects.live fits.no_process))
+    (ap (on_objects w) (row_configured w.objects os.settings no_positions fits.settings fits.unturned (none_runs w.objects.live fits.no_process)))
     (record {
       fits = record { opening = opening_goes_on os w.objects o c OpenConsole [] [] [] 0 fits.start unbegun refl tt; few = omega arith };
       means = refl;
@@ -56,7 +56,8 @@ keeps_configure os c w w' r fits sound abi =
 -- ---- an end of the console is opened
 
 console_opens : (w : World) (h : ℕ) (a b : Bool) →
-    stream_open_row w (if a then ConIn else (if b then ConOut else ConErr)) false false h ≡ opened w h (if a then ConIn else (if b then ConOut else ConErr))
+    stream_open_row w (if a then ConIn else (if b then ConOut else ConErr)) false false h
+    ≡ (Handle h, with_objects w (with_object w.objects h (Stream (if a then ConIn else (if b then ConOut else ConErr)))))
 console_opens w h true b = refl
 console_opens w h false true = refl
 console_opens w h false false = refl
@@ -81,7 +82,7 @@ keeps_open_console os c w w' r fits sound abi =
     let name = console_name (length c.handles) in
     let o = with_object w.objects h (Stream name) in
     let row : answer w (asked os c OpenConsole) r ≡ (Handle h, with_objects w o) = console_opens w h (length c.handles == 0) (length c.handles == 1) in
-    let fresh = drawn_new w w' (asked os c OpenConsole) r h (with_objects w o) abi row in
+    let fresh = fresh_handle w w' (asked os c OpenConsole) r h (with_objects w o) abi row in
     let ends = opened_more w.objects.live c.handles h fresh.free fits.few fits.opening.opened in
     let long : length (c.handles ++ h ∷ []) ≤ 3 = let few = fits.few in omega (arith, length_push c.handles h) in
     let unbegun = unbegun_opened w.objects h name (unbegun_opening os w.objects c (length c.handles) fits.opening) in
@@ -90,12 +91,20 @@ keeps_open_console os c w w' r fits sound abi =
 
 -- ---- the program's file is opened, or there is none
 
+-- A file that is there is opened, and one that isn't stays so.
+abbrev found_answer : World → List ℕ → ℕ → Option (List ℕ) → Answer
+found_answer w name h found =
+    let row = open_found w.contents.files name false false found in open_answer w (File name) h row.1 row.0
+
 open_row : (w : World) (name : List ℕ) (h : ℕ) (found : Option (List ℕ)) → 1 ≤ length name → length name ≤ 80 → file_of w.contents.files name ≡ found →
-    stream_open_row w (File name) false false h ≡ file_opened w name false false h found
+    stream_open_row w (File name) false false h ≡ found_answer w name h found
 open_row w name h found some short is =
     let fits : nat_lt 80 (length name) ≡ false = le-ltb 80 (length name) short in
-    let named : (length name == 0) ≡ false = ne_eqb (length name) 0 (λ e. omega arith) in
-    λ i. if fits i then (TooBig, w) else (if named i then (NotFound, w) else file_opened w name false false h (is i))
+    let some_byte : (length name == 0) ≡ false = ne_eqb (length name) 0 (λ e. omega arith) in
+    let files = w.contents.files in
+    let row : named files name (open_found files name false false (file_of files name)) ≡ open_found files name false false found =
+    λ i. if fits i then (TooBig, files) else (if some_byte i then (NotFound, files) else open_found files name false false (is i)) in
+    ap (λ x. open_answer w (File name) h x.1 x.0) row
 
 opened_program : (os : LibOs) (c : Cont) (w w' : World) (r : Reply) → FitsOpening os w.objects c 3 → Abi w (asked os c OpenProgram) r w' → (found : Option (List ℕ)) → file_of w.contents.files (program_name c) ≡ found →
     Holds os c OpenProgram w r w'
@@ -108,7 +117,7 @@ opened_program os c w w' r fits abi (Some bytes) is =
     let handles = c.handles ++ h ∷ [] in
     let o = with_object w.objects h (Stream (File name)) in
     let row : answer w (asked os c OpenProgram) r ≡ (Handle h, with_objects w o) = open_row w name h (Some bytes) fits.start.names.named fits.start.names.short is in
-    let fresh = drawn_new w w' (asked os c OpenProgram) r h (with_objects w o) abi row in
+    let fresh = fresh_handle w w' (asked os c OpenProgram) r h (with_objects w o) abi row in
     let last : slice_index handles 3 ≡ h = get_or_push c.handles h 0 3 fits.count in
     let file : object_at o (slice_index handles 3) ≡ Some (Stream (File name)) = ap (object_at o) last ∙ get_same w.objects.live h (Stream (File name)) in
     let front : Opened o.live c.handles = opened_with w.objects.live c.handles h (Stream (File name)) fresh.free fits.opened in

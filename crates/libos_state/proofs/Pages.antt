@@ -101,29 +101,29 @@ pages_stacked s count few has = record {
 
 -- ---- the calls on the pages of a process that runs
 
-module _ (w : World) (p : ℕ) (s : Space) (there : object_at w.objects p ≡ Some (Process s None)) where
+module _ (o : Objects) (p : ℕ) (s : Space) (there : object_at o p ≡ Some (Process s None)) where
   pub allocate_row : (page count rights : ℕ) → is_run page count ≡ true → nat_le rights 7 ≡ true → first_held s page count ≡ None → len s + count ≤ 1024 →
-      memory_allocate_row w p page count rights (running (object_at w.objects p)) ≡ (Done, with_pages w p (with_run s page count rights))
+      memory_allocate_row o p page count rights (running (object_at o p)) ≡ (Done, with_pages o p (with_run s page count rights))
   allocate_row page count rights run known free few =
       let room : nat_lt 1024 (len s + count) ≡ false = le-ltb 1024 (len s + count) few in
-      ap (λ x. memory_allocate_row w p page count rights (running x)) there
-      ∙ (λ i. if not (run i && known i) then (BadAddress, w)
-      else (if is_some (free i) then (Exists, w)
-      else (if room i then (NoRoom, w)
-      else (Done, with_pages w p (with_run s page count rights)))))
+      ap (λ x. memory_allocate_row o p page count rights (running x)) there
+      ∙ (λ i. if not (run i && known i) then (BadAddress, o)
+      else (if is_some (free i) then (Exists, o)
+      else (if room i then (NoRoom, o)
+      else (Done, with_pages o p (with_run s page count rights)))))
 
   pub protect_row : (page count rights : ℕ) → (count == 0) ≡ false → first_missing s page count ≡ None → nat_lt 7 rights ≡ false →
-      memory_protect_row w p page count rights (running (object_at w.objects p)) ≡ (Done, with_pages w p (protected s page count rights))
+      memory_protect_row o p page count rights (running (object_at o p)) ≡ (Done, with_pages o p (protected s page count rights))
   protect_row page count rights some held known =
-      ap (λ x. memory_protect_row w p page count rights (running x)) there
-      ∙ (λ i. if some i || (is_some (held i) || known i) then (BadAddress, w) else (Done, with_pages w p (protected s page count rights)))
+      ap (λ x. memory_protect_row o p page count rights (running x)) there
+      ∙ (λ i. if some i || (is_some (held i) || known i) then (BadAddress, o) else (Done, with_pages o p (protected s page count rights)))
 
   pub write_row : (address : ℕ) (bytes : List ℕ) → length bytes ≤ 65536 → first_fault (memory_of s) 2 address (length bytes) ≡ None →
-      memory_write_row w p address bytes (running (object_at w.objects p)) ≡ (Done, with_pages w p (with_memory s (with_bytes (memory_of s) address bytes)))
+      memory_write_row o p address bytes (running (object_at o p)) ≡ (Done, with_pages o p (with_memory s (with_bytes (memory_of s) address bytes)))
   write_row address bytes few free =
       let short : nat_lt 65536 (length bytes) ≡ false = le-ltb 65536 (length bytes) few in
-      ap (λ x. memory_write_row w p address bytes (running x)) there
-      ∙ (λ i. if short i then (TooBig, w) else unless_fault w (free i) (Done, with_pages w p (with_memory s (with_bytes (memory_of s) address bytes))))
+      ap (λ x. memory_write_row o p address bytes (running x)) there
+      ∙ (λ i. if short i then (TooBig, o) else unless_fault o (free i) (Done, with_pages o p (with_memory s (with_bytes (memory_of s) address bytes))))
 
 -- ---- the process that is made gets other pages
 

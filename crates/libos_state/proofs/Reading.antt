@@ -12,12 +12,11 @@ use Rattle.abi_calls.specs.declared.object.Object.TheVariants.{Stream}
 use Rattle.abi_calls.specs.declared.reply.Reply.{Reply}
 use Rattle.abi_calls.specs.declared.reply.Reply.TheVariants.{Done, Bytes, Length, TooBig}
 use Rattle.abi_calls.specs.Objects.{Object, Objects, object_at, without_handles}
-use Rattle.abi_calls.specs.World.{World, Answer, with_objects}
-use Rattle.abi_calls.specs.Streams.{stream_of, stream_length_row, stream_read_row, read_from}
-use Rattle.abi_calls.specs.Processes.{closed}
+use Rattle.abi_calls.specs.World.{World, Answer, with_objects, on_objects}
+use Rattle.abi_calls.specs.Streams.{stream_of, stream_length_row, stream_read_row}
+use Rattle.abi_calls.specs.Processes.{close_row}
 use Rattle.abi_calls.specs.Abi.{Abi, answer, is_file}
 use Rattle.abi_calls.specs.Sound.{IsSound}
-use Rattle.abi_calls.proofs.SoundChanges.{without_at}
 use Rattle.mono_model.specs.Program.{is_plain, plain_program}
 use Rattle.mono_model.specs.Starting.{started_with, begun_from}
 use Rattle.libos_state.specs.declared.cont.Cont.{Cont}
@@ -29,7 +28,7 @@ use Rattle.libos_state.specs.Answered.{goes_on, starting, loads}
 use Rattle.libos_state.specs.Meaning.{unstarted, name_in, program_file, meant_at}
 use Rattle.libos_state.specs.Fits.{FitsFile, FitsReading, FitsStage, IsStream, Opened}
 use Rattle.libos_state.proofs.Holds.{Holds}
-use Rattle.libos_state.proofs.Keeping.{Stands, by_row}
+use Rattle.libos_state.proofs.Keeping.{Stands, by_row, object_at-without_handles}
 use Rattle.libos_state.proofs.Starts.{unbegun_opening, unbegun_closed, opening_goes_on, opened_kept, opened_front}
 use Rattle.libos_state.proofs.Pieces.{read_and_rest, nothing_left, piece_is_all}
 
@@ -61,7 +60,7 @@ pub keeps_program_length : (os : LibOs) (c : Cont) (w w' : World) (r : Reply) �
 keeps_program_length os c w w' r fits sound abi =
     let size = length (program_file w c) in
     let row : answer w (asked os c ProgramLength) r ≡ (Length size, w) =
-    ap (λ x. stream_length_row w (stream_of x)) fits.file ∙ ap {B = Answer} (λ x. (Length (length (file_bytes w.contents.files (name_in (stream_of x)))), w)) (sym fits.file) in
+    ap (stream_length_row w) fits.file ∙ ap {B = Answer} (λ x. (Length (length (file_bytes w.contents.files (name_in (stream_of x)))), w)) (sym fits.file) in
     by_row os c ProgramLength w w' r (Length size, w) abi row (length_stands os c w size (size == 0) fits refl refl)
 
 -- ---- a piece is read
@@ -102,29 +101,29 @@ piece_stands os c w false false fits some more =
       means = ap (started_with (unstarted w) (arguments c)) (read_and_rest c.bytes (program_file w c) (number c 0) (min PIECE (number c 0 - length c.bytes)) (omega arith));
     }
 
-read_row : (w : World) (offset count : ℕ) (name : List ℕ) (x : Option Object) → count ≤ 65536 → x ≡ Some (Stream (File name)) →
-    stream_read_row w offset count (stream_of x) ≡ (Bytes (take count (drop offset (file_bytes w.contents.files (name_in (stream_of x))))), w)
-read_row w offset count name x small is =
+row_read : (w : World) (offset count : ℕ) (r : Reply) (name : List ℕ) (x : Option Object) → count ≤ 65536 → x ≡ Some (Stream (File name)) →
+    stream_read_row w offset count r x ≡ (Bytes (take count (drop offset (file_bytes w.contents.files (name_in (stream_of x))))), w)
+row_read w offset count r name x small is =
     let few : nat_lt 65536 count ≡ false = le-ltb 65536 count small in
-    ap (λ y. stream_read_row w offset count (stream_of y)) is
-    ∙ ap {B = Answer} (λ b. if b then (TooBig, w) else read_from w offset count (File name)) few
+    ap (stream_read_row w offset count r) is
+    ∙ ap {B = Answer} (λ b. if b then (TooBig, w) else (Bytes (take count (drop offset (file_bytes w.contents.files name))), w)) few
     ∙ ap {B = Answer} (λ y. (Bytes (take count (drop offset (file_bytes w.contents.files (name_in (stream_of y))))), w)) (sym is)
 
 pub keeps_read_program : (os : LibOs) (c : Cont) (w w' : World) (r : Reply) → FitsStage os w.objects c ReadProgram → IsSound w.objects → Abi w (asked os c ReadProgram) r w' → Holds os c ReadProgram w r w'
 keeps_read_program os c w w' r fits sound abi =
     let count = min PIECE (number c 0 - length c.bytes) in
-    let row : answer w (asked os c ReadProgram) r ≡ (Bytes (piece_of w c), w) = read_row w (length c.bytes) count fits.file.name (object_at w.objects (file_or_child c)) (omega arith) fits.file.file in
+    let row : answer w (asked os c ReadProgram) r ≡ (Bytes (piece_of w c), w) = row_read w (length c.bytes) count r fits.file.name (object_at w.objects (file_or_child c)) (omega arith) fits.file.file in
     by_row os c ReadProgram w w' r (Bytes (piece_of w c), w) abi row
     (piece_stands os c w (length (piece_of w c) == 0) (nat_le (number c 0) (length (c.bytes ++ piece_of w c))) fits refl refl)
 
 -- ---- the file is closed, and its bytes are a program or none
 
 -- The ends of the console stay open where a file is closed.
-console_kept : (o : Objects) (h : ℕ) (file : List ℕ) → IsStream o.live (File file) h → (a : ℕ) (name : StreamName) → is_file (Some name) ≡ false → IsStream o.live name a → IsStream (without_handles o (λ k. k == h)).live name a
+console_kept : (o : Objects) (h : ℕ) (file : List ℕ) → IsStream o.live (File file) h → (a : ℕ) (name : StreamName) → is_file (Some (Stream name)) ≡ false → IsStream o.live name a → IsStream (without_handles o (λ k. k == h)).live name a
 console_kept o h file held a name console there =
     let apart : (a ≡ h) → ⊥ = λ same. let both : Some (Stream (File file)) ≡ Some (Stream name) = sym held ∙ ap (object_at o) (sym same) ∙ there in
-    let e : File file ≡ name = cc in true≢false (ap (λ n. is_file (Some n)) e ∙ console) in
-    without_at o (λ k. k == h) a (ne_eqb a h apart) ∙ there
+    let e : File file ≡ name = cc in true≢false (ap (λ n. is_file (Some (Stream n))) e ∙ console) in
+    object_at-without_handles o (λ k. k == h) a (ne_eqb a h apart) ∙ there
 
 closed_stands : (os : LibOs) (c : Cont) (w : World) (plain : Bool) → FitsFile os w.objects c → is_plain c.bytes ≡ plain →
     Stands (loads os c plain) (with_objects w (without_handles w.objects (λ k. k == file_or_child c))) (started_with (unstarted w) (arguments c) c.bytes)
@@ -150,5 +149,5 @@ closed_stands os c w false fits not_plain = record {
 pub keeps_close_program : (os : LibOs) (c : Cont) (w w' : World) (r : Reply) → FitsStage os w.objects c CloseProgram → IsSound w.objects → Abi w (asked os c CloseProgram) r w' → Holds os c CloseProgram w r w'
 keeps_close_program os c w w' r fits sound abi =
     let h = file_or_child c in
-    let row : answer w (asked os c CloseProgram) r ≡ (Done, with_objects w (without_handles w.objects (λ k. k == h))) = ap (closed w h) fits.file in
+    let row : answer w (asked os c CloseProgram) r ≡ (Done, with_objects w (without_handles w.objects (λ k. k == h))) = ap (λ x. on_objects w (close_row w.objects h x)) fits.file in
     by_row os c CloseProgram w w' r (Done, with_objects w (without_handles w.objects (λ k. k == h))) abi row (closed_stands os c w (is_plain c.bytes) fits refl)

@@ -7,9 +7,9 @@ use Rattle.std.specs.declared.option.Option.TheVariants.{None, Some}
 use Rattle.std.proofs.Common.{refl, sym, ap, subst, ◌∙◌, eq-eqb}
 use Rattle.rv_core.specs.declared.context.Context.{Context}
 use Rattle.guest_space.specs.Space.{Space}
-use Rattle.abi_calls.specs.declared.object.Object.TheVariants.{Process, Thread, Event, Stream}
-use Rattle.abi_calls.specs.Objects.{Object, Objects, Live, object_at, running, contains, is_at}
-use Rattle.abi_calls.specs.Threads.{is_resting}
+use Rattle.turn_sched.specs.Lists.{contains, is_at, is_resting}
+use Rattle.abi_calls.specs.declared.object.Object.TheVariants.{Process, Thread, Event, Stream, ReadEnd, WriteEnd}
+use Rattle.abi_calls.specs.Objects.{Object, Objects, Live, object_at, running}
 use Rattle.libos_state.specs.declared.cont.Cont.{Cont}
 use Rattle.libos_state.specs.declared.notes.ProcessNote.{ProcessNote}
 use Rattle.libos_state.specs.declared.notes.ThreadNote.{ThreadNote}
@@ -17,7 +17,7 @@ use Rattle.libos_state.specs.declared.state.LibOs.{LibOs}
 use Rattle.libos_state.specs.Pending.{upcall_in}
 use Rattle.libos_state.specs.Entered.{handles_of}
 use Rattle.libos_state.specs.Meaning.{caller_in, tid_of, pid_of}
-use Rattle.libos_state.specs.Fits.{FitsRecords, FitsServed, Closable, is_closable}
+use Rattle.libos_state.specs.Fits.{FitsRecords, FitsServed, IsLoneThread, Closable, is_closable}
 use Rattle.libos_state.proofs.Bases.{thread_found, process_found}
 
 -- A running process, a thread and what can be closed have different handles.
@@ -30,6 +30,8 @@ closable_no_process (Some (Process memory code)) closable runs = absurd (cc)
 closable_no_process (Some (Thread p context)) closable runs = absurd (cc)
 closable_no_process (Some (Event set)) closable runs = absurd (cc)
 closable_no_process (Some (Stream name)) closable runs = absurd (cc)
+closable_no_process (Some (ReadEnd pipe)) closable runs = absurd (cc)
+closable_no_process (Some (WriteEnd pipe)) closable runs = absurd (cc)
 
 pub process_no_thread : (x : Option Object) (p : ℕ) (context : Context) → is_some (running x) ≡ true → x ≡ Some (Thread p context) → ⊥
 process_no_thread x p context runs thread = absurd (let e : false ≡ true = ap (λ y. is_some (running y)) (sym thread) ∙ runs in cc)
@@ -57,9 +59,9 @@ closable_kept live new keeps (h ∷ hs) closable = (ap is_closable (keeps h clos
 
 -- The records go on fitting objects that have the process, its thread, and all that can be closed.
 pub records_over : (os : LibOs) (cont : Option Cont) (live new : Live) (p : ProcessNote) (t : ThreadNote) (context : Context) → FitsRecords os live p t →
-    is_some (running (get {R = nat_cmp} new p.handle)) ≡ true → get {R = nat_cmp} new t.handle ≡ Some (Thread p.handle context) →
+    is_some (running (get {R = nat_cmp} new p.handle)) ≡ true → get {R = nat_cmp} new t.handle ≡ Some (Thread p.handle context) → IsLoneThread new t.handle →
     ((h : ℕ) → is_closable (get {R = nat_cmp} live h) ≡ true → get {R = nat_cmp} new h ≡ get {R = nat_cmp} live h) → FitsRecords (record os { cont = cont }) new p t
-records_over os cont live new p t context fits memory thread keeps = record {
+records_over os cont live new p t context fits memory thread alone keeps = record {
   processes = fits.processes;
   threads = fits.threads;
   first = fits.first;
@@ -68,6 +70,7 @@ records_over os cont live new p t context fits memory thread keeps = record {
   memory = memory;
   context = context;
   object = thread;
+  alone = alone;
   closable = closable_kept live new keeps (handles_of os) fits.closable;
   streams = λ id d named. let there = fits.streams id d named in keeps d.handle (ap is_closable there) ∙ there;
   inputs = fits.inputs;
@@ -75,7 +78,7 @@ records_over os cont live new p t context fits memory thread keeps = record {
 
 -- The same objects, at another stage.
 pub records_on : (os : LibOs) (cont : Option Cont) (live : Live) (p : ProcessNote) (t : ThreadNote) → FitsRecords os live p t → FitsRecords (record os { cont = cont }) live p t
-records_on os cont live p t fits = records_over os cont live live p t fits.context fits fits.memory fits.object (λ h _. refl)
+records_on os cont live p t fits = records_over os cont live live p t fits.context fits fits.memory fits.object fits.alone (λ h _. refl)
 
 abbrev pub served_on : (os : LibOs) (cont : Option Cont) (o : Objects) (c c' : Cont) → c'.event ≡ c.event → FitsServed os o c → FitsServed (record os { cont = cont }) o c'
 served_on os cont o c c' same fits = record {
@@ -110,11 +113,11 @@ pub caller_process : (os : LibOs) (o : Objects) (c : Cont) (fits : FitsServed os
 caller_process os o c fits = ap pid_of (process_found os.processes fits.process (upcall_in c.event).process fits.records.processes (trap_process os o c fits))
 
 -- The thread that trapped rests: it is current.
-rests : (o : Objects) (t h : ℕ) → o.lists.suspended ≡ [] → o.lists.current ≡ Some h → t ≡ h → is_resting o t ≡ true
+rests : (o : Objects) (t h : ℕ) → o.lists.suspended ≡ [] → o.lists.current ≡ Some h → t ≡ h → is_resting o.lists t ≡ true
 rests o t h suspended current same =
     (λ i. contains (suspended i) t || is_at t (current i)) ∙ eq-eqb h t (sym same)
 
-pub trap_rests : (os : LibOs) (o : Objects) (c : Cont) (fits : FitsServed os o c) → is_resting o (upcall_in c.event).thread ≡ true
+pub trap_rests : (os : LibOs) (o : Objects) (c : Cont) (fits : FitsServed os o c) → is_resting o.lists (upcall_in c.event).thread ≡ true
 trap_rests os o c fits = rests o (upcall_in c.event).thread fits.thread.handle fits.suspended fits.current (trap_thread os o c fits)
 
 -- The handles of the process and of its thread differ.

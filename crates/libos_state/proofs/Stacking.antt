@@ -7,7 +7,7 @@ use Rattle.guest_space.specs.Access.{with_bytes}
 use Rattle.guest_space.proofs.Filling.{first_held-none, first_fault-none}
 use Rattle.abi_calls.specs.declared.reply.Reply.{Reply}
 use Rattle.abi_calls.specs.declared.reply.Reply.TheVariants.{Done}
-use Rattle.abi_calls.specs.World.{World}
+use Rattle.abi_calls.specs.World.{World, with_objects, on_objects}
 use Rattle.abi_calls.specs.Memory.{with_pages}
 use Rattle.abi_calls.specs.Abi.{Abi, answer}
 use Rattle.abi_calls.specs.Sound.{IsSound}
@@ -33,8 +33,8 @@ keeps_allocate_stack os c w w' r fits sound abi =
     let none = first_held-none s STACK_PAGE STACK_PAGES (λ q low _. has_no_stack s (page_count c.bytes) 7 q fits.pages few low) in
     let room : len s + STACK_PAGES ≤ 1024 = let held = fits.pages.held in omega arith in
     let new = with_run s STACK_PAGE STACK_PAGES 3 in
-    let row : answer w (asked os c AllocateStack) r ≡ (Done, with_pages w p new) = allocate_row w p s fits.child.child STACK_PAGE STACK_PAGES 3 refl refl none room in
-    by_row os c AllocateStack w w' r (Done, with_pages w p new) abi row
+    let row : answer w (asked os c AllocateStack) r ≡ (Done, with_objects w (with_pages w.objects p new)) = ap (on_objects w) (allocate_row w.objects p s fits.child.child STACK_PAGE STACK_PAGES 3 refl refl none room) in
+    by_row os c AllocateStack w w' r (Done, with_objects w (with_pages w.objects p new)) abi row
     (record {
       fits = pages_go_on os w.objects c WriteBlock [] new 7 STACK_PAGES fits.child (pages_stacked s (page_count c.bytes) few fits.pages);
       means = ap (λ m. begins_with w c (with_block m (arguments c))) (child_is w.objects p new)
@@ -51,8 +51,8 @@ keeps_write_block os c w w' r fits sound abi =
     let block = block_stands args names.few names.args in
     let free = first_fault-none s STACK_PAGE STACK_PAGES 3 2 (stack_pointer args) (length (argument_block args)) (λ q low high. has_stack s (page_count c.bytes) 7 q fits.pages few low high) refl block.above block.below in
     let new = filled_from s (stack_pointer args) (argument_block args) in
-    let row : answer w (asked os c WriteBlock) r ≡ (Done, with_pages w p new) = write_row w p s fits.child.child (stack_pointer args) (argument_block args) block.small free in
-    by_row os c WriteBlock w w' r (Done, with_pages w p new) abi row
+    let row : answer w (asked os c WriteBlock) r ≡ (Done, with_objects w (with_pages w.objects p new)) = ap (on_objects w) (write_row w.objects p s fits.child.child (stack_pointer args) (argument_block args) block.small free) in
+    by_row os c WriteBlock w w' r (Done, with_objects w (with_pages w.objects p new)) abi row
     (record {
       fits = (pages_go_on os w.objects c CreateThread [] new 7 STACK_PAGES fits.child (pages_filled s (with_bytes (memory_of s) (stack_pointer args) (argument_block args)) (page_count c.bytes) 7 STACK_PAGES fits.pages)).child;
       means = ap (λ m. begins_with w c m) (child_is w.objects p new) ∙ sym (ap (λ m. begins_with w c (with_block m args)) (child_was w c s fits.child.child));

@@ -7,7 +7,8 @@ use Rattle.std.proofs.Common.{refl, ap, arith}
 use Rattle.bas_names.specs.declared.StreamName.{StreamName}
 use Rattle.bas_names.specs.declared.StreamName.TheVariants as stream
 use Rattle.abi_calls.specs.declared.object.Object.TheVariants.{Stream}
-use Rattle.abi_calls.specs.Objects.{Object, Objects, Live, is_process, is_thread, with_object, without_handles, kept}
+use Rattle.turn_sched.specs.Lists.{unless_ended}
+use Rattle.abi_calls.specs.Objects.{Object, Objects, Live, is_process, is_thread, with_object, without_handles}
 use Rattle.abi_calls.specs.Abi.{is_file}
 use Rattle.abi_calls.proofs.NumberMaps.{get_same}
 use Rattle.libos_state.specs.declared.cont.Cont.{Cont}
@@ -67,7 +68,7 @@ pub unbegun_closed : (o : Objects) (h : ℕ) → IsUnbegun o → IsUnbegun (with
 unbegun_closed o h unbegun = record {
   ready = ap (filter (λ k. not (k == h))) unbegun.ready;
   suspended = ap (filter (λ k. not (k == h))) unbegun.suspended;
-  current = ap (kept (λ k. k == h)) unbegun.current;
+  current = ap (unless_ended (λ k. k == h)) unbegun.current;
   no_process = none_without is_process o (λ k. k == h) unbegun.no_process;
   no_thread = none_without is_thread o (λ k. k == h) unbegun.no_thread;
 }
@@ -85,7 +86,7 @@ opening_goes_on os o o' c stage bytes handles numbers count start unbegun long o
 }
 
 -- The ends of the console stay open where each stream that is no file's stays.
-pub opened_kept : (live live' : Live) (handles : List ℕ) → ((a : ℕ) (name : StreamName) → is_file (Some name) ≡ false → IsStream live name a → IsStream live' name a) → Opened live handles → Opened live' handles
+pub opened_kept : (live live' : Live) (handles : List ℕ) → ((a : ℕ) (name : StreamName) → is_file (Some (Stream name)) ≡ false → IsStream live name a → IsStream live' name a) → Opened live handles → Opened live' handles
 opened_kept live live' [] keeps opened = tt
 opened_kept live live' (a ∷ []) keeps opened = keeps a stream.ConIn refl opened
 opened_kept live live' (a ∷ b ∷ []) keeps opened = (keeps a stream.ConIn refl opened.0, keeps b stream.ConOut refl opened.1)

@@ -4,6 +4,7 @@ use Rattle.std.specs.declared.option.Option.{Option}
 use Rattle.std.specs.declared.option.Option.TheVariants.{None, Some}
 use Rattle.std.proofs.Common.{refl, ap, subst, ◌∙◌}
 use Rattle.abi_calls.specs.declared.call.Call.{Call}
+use Rattle.abi_calls.specs.declared.object.Object.TheVariants.{Stream}
 use Rattle.abi_calls.specs.Objects.{Objects}
 use Rattle.abi_calls.specs.Abi.{IsTaken, is_file}
 use Rattle.libos_state.specs.declared.cont.Cont.{Cont}
@@ -18,7 +19,7 @@ use Rattle.libos_state.specs.Fits.{FitsStage, FitsCont}
 use Rattle.libos_state.specs.Laws.{AsksTaken}
 use Rattle.libos_state.proofs.Writing.{stream_there}
 
-no_file : (kind : Kind) → is_file (Some (stream_of_kind kind)) ≡ false
+no_file : (kind : Kind) → is_file (Some (Stream (stream_of_kind kind))) ≡ false
 no_file ConIn = refl
 no_file ConOut = refl
 no_file ConErr = refl

@@ -1,23 +1,25 @@
 -- A turn of a world that the idle library OS fits, beside a turn of the machine.
-use Rattle.std.specs.Prelude.{◌≡◌, ℕ, ◌%◌, true, List, [], ◌∷◌, ◌++◌, length, slice_get, is_some, unwrap_or, remove as remove_at}
+use Rattle.std.specs.Prelude.{◌≡◌, ℕ, ◌%◌, Bool, true, false, not, filter, List, [], ◌∷◌, ◌++◌, cond, map, length, slice_get, is_some, unwrap_or, remove as remove_at}
 use Rattle.std.specs.Ordering.{nat_cmp}
 use Rattle.std.specs.FinMap.{get, insert, empty}
 use Rattle.std.specs.declared.option.Option.{Option}
 use Rattle.std.specs.declared.option.Option.TheVariants.{None, Some}
-use Rattle.std.proofs.Common.{refl, sym, ap, subst, ◌∙◌, arith}
+use Rattle.std.proofs.Common.{refl, sym, ap, subst, ◌∙◌, arith, eq-eqb, append-nil}
+use Rattle.rv_core.specs.declared.context.Context.{Context}
 use Rattle.guest_space.specs.Space.{Space}
 use Rattle.guest_space.specs.Running.{Ran as Run, run_space}
-use Rattle.abi_calls.specs.declared.object.Object.TheVariants.{Process, Thread}
+use Rattle.turn_sched.specs.Lists.{Waiting, with_ready, times, waiting_threads, standings}
+use Rattle.turn_sched.proofs.ThreadLists.{nil-none, times-one}
+use Rattle.abi_calls.specs.declared.object.Object.TheVariants.{Process, Thread, Event, Stream, ReadEnd, WriteEnd}
 use Rattle.abi_calls.specs.declared.threads.Turned.{Turned}
 use Rattle.abi_calls.specs.declared.threads.Turned.TheVariants.{Ran, Idle, Stuck, Exception}
 use Rattle.abi_calls.specs.declared.threads.Upcall.{Upcall}
-use Rattle.abi_calls.specs.Objects.{Objects, Live, object_at, running}
+use Rattle.abi_calls.specs.Objects.{Object, Objects, Live, object_at, running, is_some_thread, with_lists}
 use Rattle.abi_calls.specs.World.{World, with_objects}
 use Rattle.abi_calls.specs.Sound.{IsSound}
-use Rattle.abi_calls.specs.Turn.{turned, turned_at, run_in, trapped, with_run_of, picked, pick_of}
+use Rattle.abi_calls.specs.Turn.{world_turn, turn_of_pick, run_in, run_end, with_run_of, with_pick, pick_of, with_due_ready, is_due}
 use Rattle.abi_calls.specs.Turn as host
 use Rattle.abi_calls.proofs.NumberMaps.{get_same, get_other}
-use Rattle.abi_calls.proofs.Facts.{awoken_none}
 use Rattle.mono_model.specs.Machine.{Mono, thread_at, with_thread, made_ready}
 use Rattle.mono_model.specs.Calls.{served, memory_at}
 use Rattle.mono_model.specs.Turns as machine
@@ -28,10 +30,44 @@ use Rattle.libos_state.specs.declared.state.LibOs.{LibOs}
 use Rattle.libos_state.specs.Records.{base, memory_of_object, context_of, process_if, threads_of, tids_of}
 use Rattle.libos_state.specs.Entered.{entered_with}
 use Rattle.libos_state.specs.Meaning.{caller_in}
-use Rattle.libos_state.specs.Fits.{FitsRecords, FitsIdle, FitsServed, is_closable}
+use Rattle.libos_state.specs.Fits.{FitsRecords, FitsIdle, FitsServed, IsLoneThread, is_closable}
 use Rattle.libos_state.proofs.Bases.{processes_set, threads_set, tids_one, process_there, memory_there, thread_there}
 use Rattle.libos_state.proofs.Idle.{idle_ready}
+use Rattle.libos_state.proofs.Keeping.{IsLoneThread-insert}
 use Rattle.libos_state.proofs.Served.{Running, running_of, records_over, process_apart, closable_apart, closable_apart_process, caller_thread, caller_process}
+
+-- Nobody waits: one who did would be the one live thread, which stands in the ready list alone.
+none_wait : (ws : List Waiting) → map (λ w. w.thread) ws ≡ [] → ws ≡ []
+none_wait [] none = refl
+none_wait (w ∷ ws) none = absurd (cc)
+
+thread_of : (x : Option Object) → is_some_thread x ≡ true → (p : ℕ) × (context : Context) × (x ≡ Some (Thread p context))
+thread_of (Some (Thread p context)) is = (p, context, refl)
+thread_of (Some (Process memory code)) is = absurd (cc)
+thread_of (Some (Event set)) is = absurd (cc)
+thread_of (Some (Stream name)) is = absurd (cc)
+thread_of (Some (ReadEnd pipe)) is = absurd (cc)
+thread_of (Some (WriteEnd pipe)) is = absurd (cc)
+thread_of None is = absurd (cc)
+
+pub waiting-idle : (os : LibOs) (o : Objects) → FitsIdle os o → IsSound o → o.lists.waiting ≡ []
+waiting-idle os o fits sound =
+    let h = fits.thread.handle in
+    let lone : (t : ℕ) → is_some_thread (object_at o t) ≡ true → t ≡ h = λ t is. let x = thread_of (object_at o t) is in fits.records.alone t x.0 x.1 x.2 in
+    none_wait o.lists.waiting (nil-none (waiting_threads o.lists) (λ t. nowhere t (is_some_thread (object_at o t)) refl (lone t)))
+  where
+    nowhere : (t : ℕ) (b : Bool) → is_some_thread (object_at o t) ≡ b → (is_some_thread (object_at o t) ≡ true → t ≡ fits.thread.handle) → times t (waiting_threads o.lists) ≡ 0
+    nowhere t false is lone = let none : standings o.lists t ≡ 0 = sound.standing t ∙ ap (λ b. cond b 1 0) is in omega arith
+    nowhere t true is lone =
+        let once : standings o.lists t ≡ 1 = sound.standing t ∙ ap (λ b. cond b 1 0) is in
+        let ready : times t o.lists.ready ≡ 1 = ap (times t) fits.ready ∙ times-one t fits.thread.handle ∙ ap (λ b. cond b 1 0) (eq-eqb fits.thread.handle t (sym (lone is))) in
+        omega arith
+
+with_due_ready-none : (o : Objects) → o.lists.waiting ≡ [] → with_due_ready o ≡ o
+with_due_ready-none o none =
+    let ready = ap (λ ws. o.lists.ready ++ map (λ w. w.thread) (filter (is_due o) ws)) none ∙ append-nil o.lists.ready in
+    let waiting : filter (λ w. not (is_due o w)) o.lists.waiting ≡ o.lists.waiting = ap (filter (λ w. not (is_due o w))) none ∙ sym none in
+    λ i. record o { lists = record o.lists { ready = ready i; waiting = waiting i } }
 
 -- The one ready thread is picked.
 pick_first : (x h : ℕ) (ready : List ℕ) → ready ≡ h ∷ [] → x % length ready ≡ 0
@@ -79,15 +115,15 @@ module _ (os : LibOs) (w : World) (fits : FitsIdle os w.objects) (sound : IsSoun
   run = run_space w.objects.settings.slice fits.records.context runs.space
 
   abbrev after : Objects
-  after = with_run_of (picked w.objects place) thread.handle process.handle run
+  after = with_run_of (with_pick w.objects place) thread.handle process.handle run
 
   -- the world's turn is a run of the thread
-  turned_is : turned w.objects ≡ trapped after thread.handle process.handle run.context run.trap
+  turned_is : world_turn w.objects ≡ run_end after thread.handle process.handle run.context run.trap
   turned_is =
-      ap (λ a. turned_at a (pick_of a) (slice_get a.ready (pick_of a))) (awoken_none w.objects sound.waiting)
-      ∙ ap (turned_at w.objects place) (first_there thread.handle place w.objects.lists.ready fits.ready first)
-      ∙ ap (host.run_thread (picked w.objects place) thread.handle) fits.records.object
-      ∙ ap (run_in (picked w.objects place) thread.handle process.handle fits.records.context) runs.runs
+      ap (λ a. turn_of_pick a (pick_of a) (slice_get a.lists.ready (pick_of a))) (with_due_ready-none w.objects (waiting-idle os w.objects fits sound))
+      ∙ ap (turn_of_pick w.objects place) (first_there thread.handle place w.objects.lists.ready fits.ready first)
+      ∙ ap (host.run_thread (with_pick w.objects place) thread.handle) fits.records.object
+      ∙ ap (run_in (with_pick w.objects place) thread.handle process.handle fits.records.context) runs.runs
 
   -- the objects after the run
   abbrev ran_process : Live
@@ -105,11 +141,16 @@ module _ (os : LibOs) (w : World) (fits : FitsIdle os w.objects) (sound : IsSoun
       get_other ran_process thread.handle (Thread process.handle run.context) h (closable_apart os w.objects.live process thread fits.records h closable)
       ∙ get_other w.objects.live process.handle (Process run.space None) h (closable_apart_process os w.objects.live process thread fits.records h closable)
 
-  after_ready : after.ready ≡ []
+  after_alone : IsLoneThread after.live thread.handle
+  after_alone =
+      IsLoneThread-insert thread.handle thread.handle (Thread process.handle run.context) (λ _ _ _. refl) ran_process
+      (IsLoneThread-insert thread.handle process.handle (Process run.space None) (λ _ _ other. absurd (cc)) w.objects.live fits.records.alone)
+
+  after_ready : after.lists.ready ≡ []
   after_ready = first_left thread.handle place w.objects.lists.ready fits.ready first
 
   after_records : FitsRecords os after.live process thread
-  after_records = records_over os os.cont w.objects.live after.live process thread run.context fits.records (ap (λ x. is_some (running x)) after_process) after_thread after_closable
+  after_records = records_over os os.cont w.objects.live after.live process thread run.context fits.records (ap (λ x. is_some (running x)) after_process) after_thread after_alone after_closable
 
   -- the machine's turn is the same run
   abbrev machine_place : ℕ
@@ -155,14 +196,14 @@ module _ (os : LibOs) (w : World) (fits : FitsIdle os w.objects) (sound : IsSoun
 
   -- without a trap the thread is ready again
   abbrev again : Objects
-  again = record after { ready = after.ready ++ thread.handle ∷ [] }
+  again = with_lists after (with_ready after.lists thread.handle)
 
-  again_ready : again.ready ≡ thread.handle ∷ []
+  again_ready : again.lists.ready ≡ thread.handle ∷ []
   again_ready = ap (λ xs. xs ++ thread.handle ∷ []) after_ready
 
   again_base : base os (with_objects w again) ≡ made_ready (base os (with_objects w after)) thread.tid
   again_base =
-      let rs : tids_of os.threads (after.ready ++ thread.handle ∷ []) ≡ tids_of os.threads after.ready ++ thread.tid ∷ [] =
+      let rs : tids_of os.threads (after.lists.ready ++ thread.handle ∷ []) ≡ tids_of os.threads after.lists.ready ++ thread.tid ∷ [] =
       ap (tids_of os.threads) again_ready ∙ tids_one os.threads thread thread.handle fits.records.threads refl
       ∙ ap (λ hs. tids_of os.threads hs ++ thread.tid ∷ []) (sym after_ready) in
       λ i. record (base os (with_objects w after)) { ready = rs i }
@@ -187,7 +228,7 @@ module _ (os : LibOs) (w : World) (fits : FitsIdle os w.objects) (sound : IsSoun
   trap_of trap = record { process = process.handle; thread = thread.handle; cause = trap.0; value = trap.1; context = run.context }
 
   abbrev stopped : Objects
-  stopped = record after { current = Some thread.handle }
+  stopped = with_lists after (record after.lists { current = Some thread.handle })
 
   abbrev trap_fits : (trap : ℕ × ℕ) → FitsServed os stopped (entered_with (trap_of trap))
   trap_fits trap = record {
@@ -215,25 +256,25 @@ module _ (os : LibOs) (w : World) (fits : FitsIdle os w.objects) (sound : IsSoun
             ∙ sym (turn_is ∙ ap (after_run (with_run (machine.picked (base os w) machine_place) thread.tid process.pid run) thread.tid process.pid run.context) is);
       }
 
-  ends_as : (trap : Option (ℕ × ℕ)) → run.trap ≡ trap → TurnsTo os w (trapped after thread.handle process.handle run.context trap).0 (trapped after thread.handle process.handle run.context trap).1
+  ends_as : (trap : Option (ℕ × ℕ)) → run.trap ≡ trap → TurnsTo os w (run_end after thread.handle process.handle run.context trap).0 (run_end after thread.handle process.handle run.context trap).1
   ends_as None is = ran_again is
   ends_as (Some trap) is = ran_trapped trap is
 
-  pub turns : TurnsTo os w (turned w.objects).0 (turned w.objects).1
+  pub turns : TurnsTo os w (world_turn w.objects).0 (world_turn w.objects).1
   turns = subst (λ (x : Turned × Objects). TurnsTo os w x.0 x.1) (sym turned_is) (ends_as run.trap refl)
 
 -- A turn without a trap leaves the machine after its turn.
-pub turn_ran : (os : LibOs) (w : World) (o : Objects) → FitsIdle os w.objects → IsSound w.objects → turned w.objects ≡ (Ran, o) → FitsIdle os o × (base os (record w { objects = o }) ≡ turn_of (base os w))
+pub turn_ran : (os : LibOs) (w : World) (o : Objects) → FitsIdle os w.objects → IsSound w.objects → world_turn w.objects ≡ (Ran, o) → FitsIdle os o × (base os (record w { objects = o }) ≡ turn_of (base os w))
 turn_ran os w o fits sound is =
     let rans : Rans os w o = subst (λ (x : Turned × Objects). TurnsTo os w x.0 x.1) is (turns os w fits sound) in
     (rans.fits, rans.turns)
 
 -- Where a process runs, its thread is ready: a turn is never idle, and never stuck.
-pub turn_never_idle : (os : LibOs) (w : World) (o : Objects) → FitsIdle os w.objects → IsSound w.objects → turned w.objects ≡ (Idle, o) → ⊥
+pub turn_never_idle : (os : LibOs) (w : World) (o : Objects) → FitsIdle os w.objects → IsSound w.objects → world_turn w.objects ≡ (Idle, o) → ⊥
 turn_never_idle os w o fits sound is = subst (λ (x : Turned × Objects). TurnsTo os w x.0 x.1) is (turns os w fits sound)
 
-pub turn_never_stuck : (os : LibOs) (w : World) (o : Objects) → FitsIdle os w.objects → IsSound w.objects → turned w.objects ≡ (Stuck, o) → ⊥
+pub turn_never_stuck : (os : LibOs) (w : World) (o : Objects) → FitsIdle os w.objects → IsSound w.objects → world_turn w.objects ≡ (Stuck, o) → ⊥
 turn_never_stuck os w o fits sound is = subst (λ (x : Turned × Objects). TurnsTo os w x.0 x.1) is (turns os w fits sound)
 
-pub turn_traps : (os : LibOs) (w : World) (u : Upcall) (o : Objects) → FitsIdle os w.objects → IsSound w.objects → turned w.objects ≡ (Exception u, o) → Traps os w u o
+pub turn_traps : (os : LibOs) (w : World) (u : Upcall) (o : Objects) → FitsIdle os w.objects → IsSound w.objects → world_turn w.objects ≡ (Exception u, o) → Traps os w u o
 turn_traps os w u o fits sound is = subst (λ (x : Turned × Objects). TurnsTo os w x.0 x.1) is (turns os w fits sound)

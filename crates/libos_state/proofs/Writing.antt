@@ -9,13 +9,14 @@ use Rattle.std.proofs.lemmas.Bool.{cond-true, cond-false, le-ltb}
 use Rattle.guest_space.specs.Space.{Space, memory_of, bytes_from}
 use Rattle.guest_space.specs.Access.{AccessFault, Missing, Forbidden, first_fault}
 use Rattle.guest_space.proofs.Spaces.{length-bytes_from}
+use Rattle.abi_calls.specs.declared.object.Object.TheVariants.{Stream}
 use Rattle.abi_calls.specs.declared.reply.Reply.{Reply}
 use Rattle.abi_calls.specs.declared.reply.Reply.TheVariants.{Bytes, TooBig}
 use Rattle.abi_calls.specs.declared.threads.Upcall.{Upcall}
 use Rattle.abi_calls.specs.Objects.{Objects, object_at, running}
-use Rattle.abi_calls.specs.World.{World, Answer}
+use Rattle.abi_calls.specs.World.{World, Answer, on_objects, on_contents}
 use Rattle.abi_calls.specs.Memory.{memory_read_row, unless_fault}
-use Rattle.abi_calls.specs.Streams.{stream_of, stream_write_row, written_to}
+use Rattle.abi_calls.specs.Streams.{stream_write_row, write_row}
 use Rattle.abi_calls.specs.Abi.{Abi}
 use Rattle.abi_calls.specs.Sound.{IsSound}
 use Rattle.mono_model.specs.Machine as mono
@@ -97,12 +98,13 @@ module _ (os : LibOs) (c : Cont) (w : World) (fits : FitsWrite os w.objects c) w
   read_fault = first_fault (memory_of runs_there.space) 1 (argument c 1) (moved (argument c 2))
 
   abbrev read_answer : Option AccessFault → Answer
-  read_answer fault = unless_fault w fault (Bytes read_bytes, w)
+  read_answer fault = on_objects w (unless_fault w.objects fault (Bytes read_bytes, w.objects))
 
-  row_read : memory_read_row w (argument c 1) (moved (argument c 2)) (running (object_at w.objects trap.process)) ≡ read_answer read_fault
+  row_read : on_objects w (memory_read_row w.objects (argument c 1) (moved (argument c 2)) (running (object_at w.objects trap.process))) ≡ read_answer read_fault
   row_read =
-      ap (memory_read_row w (argument c 1) (moved (argument c 2))) (ap (λ h. running (object_at w.objects h)) (trap_process os w.objects c fits.served) ∙ runs_there.runs)
-      ∙ cond-false (nat_lt 65536 (moved (argument c 2))) (TooBig, w) (read_answer read_fault) (le-ltb 65536 (moved (argument c 2)) (moved_within (argument c 2)))
+      let granted : Reply × Objects = unless_fault w.objects read_fault (Bytes read_bytes, w.objects) in
+      ap (λ x. on_objects w (memory_read_row w.objects (argument c 1) (moved (argument c 2)) x)) (ap (λ h. running (object_at w.objects h)) (trap_process os w.objects c fits.served) ∙ runs_there.runs)
+      ∙ ap (on_objects w) (cond-false (nat_lt 65536 (moved (argument c 2))) (TooBig, w.objects) granted (le-ltb 65536 (moved (argument c 2)) (moved_within (argument c 2))))
 
   served_is : served (base os w) (caller_in os c) trap.cause ≡ write_unless (base os w) (caller_in os c) (stream_of_kind fits.description.kind) read_bytes read_fault
   served_is = served_write (base os w) (caller_in os c) trap.cause (description_seen fits.description) runs_there.space
@@ -169,8 +171,8 @@ module _ (os : LibOs) (c : Cont) (o : Objects) (fits : FitsWriteBytes os o c) wh
   target_named : Named os.descriptions target
   target_named = behind_named os (register fits.writes.served.upcall.context 10) _ target fits.writes.behind
 
-  pub stream_there : stream_of (object_at o (wanted_stream os c)) ≡ Some (stream_of_kind target.kind)
-  stream_there = ap (λ x. stream_of (object_at o (handle_of x))) (behind_is os o c fits.writes) ∙ ap stream_of (fits.writes.served.records.streams target_named.id target target_named.named)
+  pub stream_there : object_at o (wanted_stream os c) ≡ Some (Stream (stream_of_kind target.kind))
+  stream_there = ap (λ x. object_at o (handle_of x)) (behind_is os o c fits.writes) ∙ fits.writes.served.records.streams target_named.id target target_named.named
 
   target_no_input : target.kind ≢ ConIn
   target_no_input is = fits.writes.served.records.inputs target_named.id target target_named.named is fits.writes.writable
@@ -183,9 +185,12 @@ module _ (os : LibOs) (c : Cont) (w : World) (fits : FitsWriteBytes os w.objects
   few_bytes : length c.bytes ≤ 65536
   few_bytes = let is = fits.count in let within = moved_within (register fits.writes.served.upcall.context 12) in omega arith
 
-  row_written : stream_write_row w (number c 0) c.bytes (stream_of (object_at w.objects (wanted_stream os c))) ≡ written_to w (number c 0) c.bytes (stream_of_kind kind)
-  row_written = ap (stream_write_row w (number c 0) c.bytes) (stream_there os c w.objects fits)
-      ∙ cond-false (nat_lt 65536 (length c.bytes)) (TooBig, w) (written_to w (number c 0) c.bytes (stream_of_kind kind)) (le-ltb 65536 (length c.bytes) few_bytes)
+  abbrev written_to : Kind → Answer
+  written_to k = on_contents w (write_row w.contents (number c 0) c.bytes (stream_of_kind k))
+
+  row_written : (r : Reply) → stream_write_row w (number c 0) c.bytes r (object_at w.objects (wanted_stream os c)) ≡ written_to kind
+  row_written r = ap (stream_write_row w (number c 0) c.bytes r) (stream_there os c w.objects fits)
+      ∙ cond-false (nat_lt 65536 (length c.bytes)) (TooBig, w) (written_to kind) (le-ltb 65536 (length c.bytes) few_bytes)
 
   stream_is : (k : Kind) → kind ≡ k → stream_in os c ≡ stream_of_kind k
   stream_is k is = ap stream_described (behind_is os w.objects c fits.writes) ∙ ap stream_of_kind is
@@ -193,7 +198,7 @@ module _ (os : LibOs) (c : Cont) (w : World) (fits : FitsWriteBytes os w.objects
   abbrev done : Cont
   done = record (bare c SetContext) { next = returned (upcall_in c.event).context (length c.bytes) }
 
-  write_holds : (k : Kind) → kind ≡ k → Holds os c WriteStream w (written_to w (number c 0) c.bytes (stream_of_kind k)).0 (written_to w (number c 0) c.bytes (stream_of_kind k)).1
+  write_holds : (k : Kind) → kind ≡ k → Holds os c WriteStream w (written_to k).0 (written_to k).1
   write_holds ConIn is = absurd (target_no_input os c w.objects fits is)
   write_holds ConOut is = record {
     fits = served_on os (Some done) w.objects c done refl fits.writes.served;
@@ -206,4 +211,4 @@ module _ (os : LibOs) (c : Cont) (w : World) (fits : FitsWriteBytes os w.objects
 
 pub keeps_write_stream : (os : LibOs) (c : Cont) (w w' : World) (r : Reply) → FitsWriteBytes os w.objects c → IsSound w.objects → Abi w (asked os c WriteStream) r w' → Holds os c WriteStream w r w'
 keeps_write_stream os c w w' r fits sound abi =
-    holds_by os c WriteStream w w' r (written_to w (number c 0) c.bytes (stream_of_kind fits.writes.description.kind)) abi (row_written os c w fits) (write_holds os c w fits fits.writes.description.kind refl)
+    holds_by os c WriteStream w w' r (written_to os c w fits fits.writes.description.kind) abi (row_written os c w fits r) (write_holds os c w fits fits.writes.description.kind refl)

@@ -12,7 +12,8 @@ use Rattle.bas_names.specs.declared.StreamName.{StreamName}
 use Rattle.bas_names.specs.declared.StreamName.TheVariants as stream
 use Rattle.abi_calls.specs.declared.object.Object.TheVariants.{Process, Thread, Event, Stream}
 use Rattle.abi_calls.specs.declared.threads.Upcall.{Upcall}
-use Rattle.abi_calls.specs.Objects.{Object, Objects, Live, object_at, running, contains, is_process, is_thread}
+use Rattle.turn_sched.specs.Lists.{contains}
+use Rattle.abi_calls.specs.Objects.{Object, Objects, Live, object_at, running, is_process, is_thread}
 use Rattle.abi_calls.specs.Processes.{is_acceptable}
 use Rattle.mono_model.specs.Machine.{register}
 use Rattle.mono_model.specs.Calls.{WRITE, moved}
@@ -37,17 +38,20 @@ use Rattle.libos_state.specs.Entered.{handles_of}
 abbrev pub is_closable : Option Object → Bool
 is_closable (Some (Stream name)) = true
 is_closable (Some (Event set)) = true
-is_closable (Some (Process memory code)) = false
-is_closable (Some (Thread process context)) = false
-is_closable None = false
+is_closable _ = false
 
 -- Handles that can be closed one after another: each is of a stream or an event, and none stands twice.
 abbrev pub Closable : Live → List ℕ → Type 0
 Closable live [] = Unit {0}
 Closable live (h ∷ hs) = (is_closable (get {R = nat_cmp} live h) ≡ true) × (contains hs h ≡ false) × Closable live hs
 
--- The records of the process and of its thread fit their objects, and so do the open descriptions; the console's input
--- isn't open for writing.
+-- No other number names a thread.
+abbrev pub IsLoneThread : Live → ℕ → Type 0
+IsLoneThread live t =
+    (q p : ℕ) (context : Context) → get {R = nat_cmp} live q ≡ Some (Thread p context) → q ≡ t
+
+-- The records of the process and of its thread fit their objects, and so do the open descriptions;
+-- the console's input isn't open for writing.
 pub record FitsRecords (os : LibOs) (live : Live) (process : ProcessNote) (thread : ThreadNote) : Type 0 where
   pub processes : os.processes ≡ process ∷ []
   pub threads : os.threads ≡ thread ∷ []
@@ -57,6 +61,7 @@ pub record FitsRecords (os : LibOs) (live : Live) (process : ProcessNote) (threa
   pub memory : is_some (running (get {R = nat_cmp} live process.handle)) ≡ true
   pub context : Context
   pub object : get {R = nat_cmp} live thread.handle ≡ Some (Thread process.handle context)
+  pub alone : IsLoneThread live thread.handle
   pub closable : Closable live (handles_of os)
   pub streams : (id : ℕ) (d : Description) → description_named id os.descriptions ≡ Some d → get {R = nat_cmp} live d.handle ≡ Some (Stream (stream_of_kind d.kind))
   pub inputs : (id : ℕ) (d : Description) → description_named id os.descriptions ≡ Some d → d.kind ≡ ConIn → bit_and d.access 2 ≢ 2
@@ -257,6 +262,7 @@ pub record FitsThread (os : LibOs) (o : Objects) (c : Cont) (kept : ℕ) : Type 
   pub child : object_at o (file_or_child c) ≡ Some (Process memory None)
   pub context : Context
   pub thread : object_at o (handle c 4) ≡ Some (Thread (file_or_child c) context)
+  pub alone : IsLoneThread o.live (handle c 4)
   pub suspended : o.lists.suspended ≡ handle c 4 ∷ []
 
 pub record FitsEvent (os : LibOs) (o : Objects) (c : Cont) : Type 0 where

@@ -10,7 +10,7 @@ use Rattle.abi_calls.specs.Objects.{Objects}
 use Rattle.abi_calls.specs.World.{World}
 use Rattle.abi_calls.specs.Abi.{Abi, IsTaken}
 use Rattle.abi_calls.specs.Sound.{IsSound}
-use Rattle.abi_calls.specs.Turn.{turned}
+use Rattle.abi_calls.specs.Turn.{world_turn}
 use Rattle.mono_model.specs.Turns.{turn_of}
 use Rattle.mono_model.specs.Starting.{Runs}
 use Rattle.libos_state.specs.declared.state.LibOs.{LibOs}
@@ -32,5 +32,5 @@ pub record AsksTaken (os : LibOs) (call : Call) : Type 0 where
 -- In every sound world that the idle library OS fits, a turn that ends with this trap makes the new library OS fit and
 -- stand for the machine's next turn.
 pub record EntersTurn (old : LibOs) (upcall : Upcall) (new : LibOs) : Type 0 where
-  pub enters : (w : World) (o : Objects) → FitsIdle old w.objects → IsSound w.objects → turned w.objects ≡ (Exception upcall, o) →
+  pub enters : (w : World) (o : Objects) → FitsIdle old w.objects → IsSound w.objects → world_turn w.objects ≡ (Exception upcall, o) →
       Fits new o × (meaning new (record w { objects = o }) ≡ Runs (turn_of (base old w)))

@@ -1,5 +1,5 @@
 -- The records of the library OS, and what its machine is: the host's world through these records.
-use Rattle.std.specs.Prelude.{ℕ, ◌==◌, List, [], map, find, filter_map, replicate}
+use Rattle.std.specs.Prelude.{ℕ, ◌==◌, List, map, find, filter_map, replicate}
 use Rattle.std.specs.Ordering.{nat_cmp}
 use Rattle.std.specs.FinMap.{FinMap, get, empty, from_entries}
 use Rattle.std.specs.Option.{option_map, unwrap_or}
@@ -9,7 +9,7 @@ use Rattle.rv_core.specs.declared.context.Context.{Context}
 use Rattle.guest_space.specs.Space.{Space}
 use Rattle.bas_names.specs.declared.StreamName as stream
 use Rattle.bas_names.specs.declared.StreamName.{StreamName}
-use Rattle.abi_calls.specs.declared.object.Object.TheVariants.{Process, Thread, Event, Stream}
+use Rattle.abi_calls.specs.declared.object.Object.TheVariants.{Thread}
 use Rattle.abi_calls.specs.Objects.{Object, Live, running}
 use Rattle.abi_calls.specs.World.{World}
 use Rattle.mono_model.specs.Machine as mono
@@ -78,10 +78,7 @@ no_context = record { pc = 0; x = replicate 31 0 }
 -- The registers of a thread's object.
 abbrev pub context_of : Option Object → Context
 context_of (Some (Thread process context)) = context
-context_of (Some (Process memory code)) = no_context
-context_of (Some (Event set)) = no_context
-context_of (Some (Stream name)) = no_context
-context_of None = no_context
+context_of _ = no_context
 
 abbrev pub thread_seen : Live → ThreadNote → mono.Thread
 thread_seen live n = record { process = n.pid; context = context_of (get {R = nat_cmp} live n.handle) }
