@@ -1,14 +1,16 @@
 -- What a decoder reads, an encoder spells.
 use Rattle.std.proofs.Common.{◌≡◌, ℕ, ◌+◌, ◌*◌, ◌%◌, ◌^◌, ◌<◌, Bool, true, false, cond, eqb, ltb, ◌&&◌, Some, None, refl, ap, ◌∙◌, arith, inl, inr}
 use Rattle.rv_core.specs.declared.instr.Op.{Op}
+use Rattle.rv_core.specs.declared.listing.Layout.{Layout}
+use Rattle.rv_core.specs.declared.listing.Layout.TheVariants.{U, J, I, S, B, R, Shift, ShiftW, Ignored, Whole}
 use Rattle.rv_core.specs.declared.instr.Op.TheVariants as op
-use Rattle.rv_core.specs.Listing.{Form, U, J, I, S, B, R, Shift, ShiftW, Ignored, Whole, form, has_form, bits, signed_by, fields_of}
+use Rattle.rv_core.specs.Listing.{form, has_form, bits, signed_by, fields_of}
 use Rattle.rv_core.specs.Encoding.{is_encodable, spelling, unsigned_by, is_signed_by, encoded, store_bits, branch_bits, jump_bits, IsFence}
 use Rattle.rv_core.proofs.Signs.{unsigned_by-signed_by, is_signed_by-signed_by}
 use Rattle.rv_core.proofs.Spelled.{fields_under, and_true, both, equal, same, within}
 
 -- A layout whose fields are all read.
-abbrev reads_all : Form → Bool
+abbrev reads_all : Layout → Bool
 reads_all (Ignored opcode f3) = false
 reads_all _ = true
 
@@ -22,7 +24,7 @@ true_or true h = refl
 true_or false h = absurd (h refl)
 
 -- The word is what an encoder makes of the fields that it holds.
-abbrev Spells : ℕ → Op → Form → Type 0
+abbrev Spells : ℕ → Op → Layout → Type 0
 Spells w o f = (is_encodable f (fields_under w o f) ≡ true) × (spelling f (fields_under w o f) ≡ w)
 
 spells_U : (opcode w : ℕ) (o : Op) → w < 2 ^ 32 → bits w 6 0 ≡ opcode → Spells w o (U opcode)
@@ -110,7 +112,7 @@ spells_ShiftW opcode f3 f7 w o in_word at_opcode at_f3 at_f7 =
     let in_imm : ltb (bits w 24 20) 32 ≡ true = within (bits w 24 20) 32 (omega arith) in
     (both _ _ (both _ _ (both _ _ in_rd in_rs1) refl) in_imm, omega arith)
 
-spells-has_form : (f : Form) (w : ℕ) (o : Op) → w < 2 ^ 32 → reads_all f ≡ true → has_form w f ≡ true → Spells w o f
+spells-has_form : (f : Layout) (w : ℕ) (o : Op) → w < 2 ^ 32 → reads_all f ≡ true → has_form w f ≡ true → Spells w o f
 spells-has_form (U opcode) w o b r h = spells_U opcode w o b (equal _ _ h)
 spells-has_form (J opcode) w o b r h = spells_J opcode w o b (equal _ _ h)
 spells-has_form (I opcode f3) w o b r h =
@@ -135,7 +137,7 @@ spells-has_form (ShiftW opcode f3 f7) w o b r h =
     let p = and_true (eqb (bits w 6 0) opcode) (eqb (bits w 14 12) f3) q.0 in
     spells_ShiftW opcode f3 f7 w o b (equal _ _ p.0) (equal _ _ p.1) (equal _ _ q.1)
 spells-has_form (Ignored opcode f3) w o b r h = cc
-spells-has_form (Whole word) w o b r h = (refl, let e : w ≡ word = equal _ _ h in omega arith)
+spells-has_form (Whole word) w o b r h = (refl, let e : w ≡ word = equal w word (and_true (eqb (bits w 6 0) (bits word 6 0)) (eqb w word) h).1 in omega arith)
 
 -- A word is what the instruction that it spells encodes to, the fences aside.
 pub encoded-fields_of : (w : ℕ) (o : Op) → w < 2 ^ 32 → has_form w (form o) ≡ true → ¬ IsFence o → encoded (fields_of w o) ≡ Some w

@@ -1,16 +1,18 @@
 -- What an encoder spells, a decoder reads.
-use Rattle.std.proofs.Common.{◌≡◌, ℕ, ◌+◌, ◌*◌, ◌%◌, ◌^◌, ◌<◌, Bool, true, false, cond, eqb, ltb, ◌&&◌, Some, None, refl, sym, ap, ◌∙◌, arith, rules, ℤ, pos, negsuc, IfSome}
+use Rattle.std.proofs.Common.{◌≡◌, ℕ, ◌+◌, ◌*◌, ◌%◌, ◌^◌, ◌<◌, Bool, true, false, cond, eqb, ltb, ◌&&◌, Some, None, refl, sym, ap, ◌∙◌, arith, ℤ, pos, negsuc, IfSome}
 use Rattle.std.proofs.lemmas.Bool.Decides.{nat_tests}
 use Rattle.rv_core.specs.declared.instr.Op.{Op}
+use Rattle.rv_core.specs.declared.listing.Layout.{Layout}
+use Rattle.rv_core.specs.declared.listing.Layout.TheVariants.{U, J, I, S, B, R, Shift, ShiftW, Ignored, Whole}
 use Rattle.rv_core.specs.declared.instr.Op.TheVariants as op
 use Rattle.rv_core.specs.declared.instr.Instr.{Instr}
-use Rattle.rv_core.specs.Listing.{Form, U, J, I, S, B, R, Shift, ShiftW, Ignored, Whole, form, has_form, bits, has_rd, has_rs1, has_rs2, immediate, signed_by, decoded, Decodes}
+use Rattle.rv_core.specs.Listing.{form, has_form, bits, has_rd, has_rs1, has_rs2, immediate, signed_by, decoded, Decodes}
 use Rattle.rv_core.specs.Encoding.{is_register, has_registers, is_encodable, is_immediate, spelling, unsigned_by, is_signed_by, is_below, encoded}
 use Rattle.rv_core.proofs.Names.{decoded-is}
 use Rattle.rv_core.proofs.Signs.{unsigned_by-bound, signed_by-unsigned_by, is_below-bound, pos-unsigned_by}
 
 -- The instruction o with the fields that a word holds under a layout.
-abbrev pub fields_under : ℕ → Op → Form → Instr
+abbrev pub fields_under : ℕ → Op → Layout → Instr
 fields_under w o f = record {
   op = o;
   rd = cond (has_rd f) (bits w 11 7) 0;
@@ -20,7 +22,7 @@ fields_under w o f = record {
 }
 
 -- The opcode and the function fields of a layout are within theirs.
-abbrev pub has_room : Form → Bool
+abbrev pub has_room : Layout → Bool
 has_room (U opcode) = ltb opcode (2 ^ 7)
 has_room (J opcode) = ltb opcode (2 ^ 7)
 has_room (I opcode f3) = ltb opcode (2 ^ 7) && ltb f3 (2 ^ 3)
@@ -60,13 +62,13 @@ pub both : (a b : Bool) → a ≡ true → b ≡ true → (a && b) ≡ true
 both a b h k = ap (λ x. x && b) h ∙ k
 
 -- What is known of the fields of an instruction that can be spelled.
-record InRange (f : Form) (i : Instr) : Type 0 where
+record InRange (f : Layout) (i : Instr) : Type 0 where
   rd : i.rd < cond (has_rd f) 32 1
   rs1 : i.rs1 < cond (has_rs1 f) 32 1
   rs2 : i.rs2 < cond (has_rs2 f) 32 1
   immediate : is_immediate f i.imm ≡ true
 
-in_range : (f : Form) (i : Instr) → is_encodable f i ≡ true → InRange f i
+in_range : (f : Layout) (i : Instr) → is_encodable f i ≡ true → InRange f i
 in_range f i h =
     let e = and_true (has_registers (has_rd f) (has_rs1 f) (has_rs2 f) i) (is_immediate f i.imm) h in
     let r = and_true (is_register (has_rd f) i.rd && is_register (has_rs1 f) i.rs1) (is_register (has_rs2 f) i.rs2) e.0 in
@@ -74,7 +76,7 @@ in_range f i h =
     record { rd = below _ _ q.0; rs1 = below _ _ q.1; rs2 = below _ _ r.1; immediate = e.1 }
 
 -- A word has a layout, and holds an instruction's fields.
-abbrev Holds : Form → ℕ → Instr → Type 0
+abbrev Holds : Layout → ℕ → Instr → Type 0
 Holds f w i = (has_form w f ≡ true) × (fields_under w i.op f ≡ i)
 
 holds_U : (opcode : ℕ) (i : Instr) → opcode < 2 ^ 7 → InRange (U opcode) i → Holds (U opcode) (spelling (U opcode) i) i
@@ -242,9 +244,9 @@ holds_Whole word i r =
     let at_rs1 : 0 ≡ i.rs1 = omega arith in
     let at_rs2 : 0 ≡ i.rs2 = omega arith in
     let at_imm : pos 0 ≡ i.imm = zero_below i.imm r.immediate in
-    (same _ _ at_word, λ t. record { op = i.op; rd = at_rd t; rs1 = at_rs1 t; rs2 = at_rs2 t; imm = at_imm t })
+    (both _ _ (same _ _ (ap (λ v. bits v 6 0) at_word)) (same _ _ at_word), λ t. record { op = i.op; rd = at_rd t; rs1 = at_rs1 t; rs2 = at_rs2 t; imm = at_imm t })
 
-pub holds-spelling : (f : Form) (i : Instr) → has_room f ≡ true → is_encodable f i ≡ true → Holds f (spelling f i) i
+pub holds-spelling : (f : Layout) (i : Instr) → has_room f ≡ true → is_encodable f i ≡ true → Holds f (spelling f i) i
 holds-spelling (U opcode) i h e = holds_U opcode i (below _ _ h) (in_range _ i e)
 holds-spelling (J opcode) i h e = holds_J opcode i (below _ _ h) (in_range _ i e)
 holds-spelling (I opcode f3) i h e =
@@ -277,7 +279,7 @@ holds-spelling (Whole word) i h e = holds_Whole word i (in_range _ i e)
 pub decoded-spelling : (i : Instr) → is_encodable (form i.op) i ≡ true → decoded (spelling (form i.op) i) ≡ Some i
 decoded-spelling i e =
     let h = holds-spelling (form i.op) i (has_room-form i.op) e in
-    let d : Decodes (spelling (form i.op) i) (Some i) = (search (rules, h.0), sym h.1) in
+    let d : Decodes (spelling (form i.op) i) (Some i) = (h.0, sym h.1) in
     decoded-is _ (Some i) d
 
 decoded-cond : (i : Instr) (b : Bool) → is_encodable (form i.op) i ≡ b → IfSome (cond b (Some (spelling (form i.op) i)) None) (λ w. decoded w ≡ Some i)

@@ -1,3 +1,5 @@
+ghost use Rattle.std.specs.Prelude.{◌≡◌};
+
 /// The instructions of RV64I and FENCE.I, by their names in the RISC-V manual.
 #[derive(Clone, Copy, Debug, PartialEq, Eq)]
 pub enum Op {
@@ -65,4 +67,20 @@ pub struct Instr {
     pub rs1: u8,
     pub rs2: u8,
     pub imm: i64,
+}
+
+impl Instr {
+    /// The instruction with these fields.
+    #[inline]
+    pub const fn new(op: Op, rd: u8, rs1: u8, rs2: u8, imm: i64) -> Instr
+        ensures { result ≡ record { op = op; rd = rd; rs1 = rs1; rs2 = rs2; imm = imm } }
+    {
+        Instr {
+            op,
+            rd,
+            rs1,
+            rs2,
+            imm,
+        }
+    }
 }

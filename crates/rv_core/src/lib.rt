@@ -8,6 +8,7 @@ mod encoder;
 mod fields;
 mod hart;
 mod instr;
+mod listing;
 mod opcodes;
 mod rows;
 #[cfg(test)]
@@ -19,3 +20,4 @@ pub use decoder::decode;
 pub use encoder::encode;
 pub use hart::{slice, step};
 pub use instr::{Instr, Op};
+pub use listing::Layout;
