@@ -1,6 +1,7 @@
 -- How each instruction is spelled as a word of 32 bits (RISC-V Unprivileged ISA, "RV32/64G Instruction Set
 -- Listings" and "Base Instruction Formats").
-use Rattle.std.specs.Prelude.{◌≡◌, ℕ, ◌+◌, ◌-◌, ◌*◌, ◌/◌, ◌%◌, ◌^◌, ◌<◌, ◌==◌, Bool, true, false, ◌&&◌, if◌then◌else◌, nat_lt, IsTrue, Option, Some, None, option_map, find, List, [], ◌∷◌, ℤ, pos, ◌-ℤ◌}
+use Rattle.std.specs.Prelude.{◌≡◌, ℕ, ◌+◌, ◌-◌, ◌*◌, ◌/◌, ◌%◌, ◌^◌, ◌<◌, ◌==◌, Bool, true, false, ◌&&◌, if◌then◌else◌, nat_lt, IsTrue, Option, Some, None, option_map, find, List, ℤ, pos, ◌-ℤ◌}
+use Rattle.rv_core.specs.declared.instr.TheConstants.{OPS}
 use Rattle.rv_core.specs.declared.instr.Op.{Op}
 use Rattle.rv_core.specs.declared.instr.Op.TheVariants as op
 use Rattle.rv_core.specs.declared.instr.Instr.{Instr}
@@ -65,13 +66,7 @@ form op.Ebreak = Whole 0x00100073
 
 -- All instructions.
 abbrev pub listed : List Op
-listed =
-    op.Lui ∷ op.Auipc ∷ op.Jal ∷ op.Jalr ∷ op.Beq ∷ op.Bne ∷ op.Blt ∷ op.Bge ∷ op.Bltu ∷ op.Bgeu
-    ∷ op.Lb ∷ op.Lh ∷ op.Lw ∷ op.Ld ∷ op.Lbu ∷ op.Lhu ∷ op.Lwu ∷ op.Sb ∷ op.Sh ∷ op.Sw ∷ op.Sd
-    ∷ op.Addi ∷ op.Slti ∷ op.Sltiu ∷ op.Xori ∷ op.Ori ∷ op.Andi ∷ op.Slli ∷ op.Srli ∷ op.Srai
-    ∷ op.Add ∷ op.Sub ∷ op.Sll ∷ op.Slt ∷ op.Sltu ∷ op.Xor ∷ op.Srl ∷ op.Sra ∷ op.Or ∷ op.And
-    ∷ op.Addiw ∷ op.Slliw ∷ op.Srliw ∷ op.Sraiw ∷ op.Addw ∷ op.Subw ∷ op.Sllw ∷ op.Srlw ∷ op.Sraw
-    ∷ op.Fence ∷ op.FenceI ∷ op.Ecall ∷ op.Ebreak ∷ []
+listed = OPS
 
 -- Bits high to low of a word, as a number.
 abbrev pub bits : ℕ → ℕ → ℕ → ℕ

@@ -3,6 +3,7 @@
 use Rattle.std.specs.Prelude.{ℕ, ◌+◌, ◌-◌, ◌*◌, ◌/◌, ◌%◌, ◌^◌, ◌==◌, Bool, true, false, not, if◌then◌else◌, nat_lt, ℤ, bit_and, bit_or, bit_xor, int_lt}
 use Rattle.std.specs.Int.{cast_signed, cast_unsigned, int_shr, w32, w64}
 use Rattle.rv_core.specs.Memory.{IsSize}
+use Rattle.rv_core.specs.Listing.{signed_by}
 use Rattle.rv_core.specs.declared.instr.Op.{Op}
 use Rattle.rv_core.specs.declared.instr.Op.TheVariants as op
 use Rattle.rv_core.specs.declared.rows.Effect.{Effect}
@@ -20,9 +21,9 @@ minus a b = word (a + (2 ^ 64 - b))
 abbrev pub signed : ℕ → ℤ
 signed a = cast_signed w64 a
 
--- The low bits of a number as a signed number, on 64 bits: the highest of them is repeated above.
+-- The low bits of a number as a signed number, on 64 bits.
 abbrev pub sign_extended : ℕ → ℕ → ℕ
-sign_extended count n = if nat_lt (n % 2 ^ count) (2 ^ (count - 1)) then n % 2 ^ count else n % 2 ^ count + (2 ^ 64 - 2 ^ count)
+sign_extended count n = cast_unsigned w64 (signed_by (2 ^ (count - 1)) (n % 2 ^ count))
 
 -- The result of an instruction on words of 32 bits.
 abbrev pub extended : ℕ → ℕ

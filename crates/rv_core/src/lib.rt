@@ -19,5 +19,5 @@ pub use context::{Context, Ended, Trap};
 pub use decoder::decode;
 pub use encoder::encode;
 pub use hart::{slice, step};
-pub use instr::{Instr, Op};
+pub use instr::{Instr, OPS, Op};
 pub use listing::Layout;
