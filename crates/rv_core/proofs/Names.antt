@@ -8,13 +8,13 @@ use Rattle.rv_core.specs.declared.listing.Layout.{Layout}
 use Rattle.rv_core.specs.declared.listing.Layout.TheVariants.{U, J, I, S, B, R, Shift, ShiftW, Ignored, Whole}
 use Rattle.rv_core.specs.Listing.{form, fits, has_form, bits, listed, decoded, fields_of, op_at, op_of, Decodes}
 
-one : (a b : ℕ) → eqb a b ≡ true → a ≡ b
+pub one : (a b : ℕ) → eqb a b ≡ true → a ≡ b
 one a b h = grind (arith, nat_tests)
 
-two : (a b c d : ℕ) → (eqb a b && eqb c d) ≡ true → (a ≡ b) × (c ≡ d)
+pub two : (a b c d : ℕ) → (eqb a b && eqb c d) ≡ true → (a ≡ b) × (c ≡ d)
 two a b c d h = (grind (arith, nat_tests), grind (arith, nat_tests))
 
-three : (a b c d e f : ℕ) → (eqb a b && eqb c d && eqb e f) ≡ true → (a ≡ b) × (c ≡ d) × (e ≡ f)
+pub three : (a b c d e f : ℕ) → (eqb a b && eqb c d && eqb e f) ≡ true → (a ≡ b) × (c ≡ d) × (e ≡ f)
 three a b c d e f h = (grind (arith, nat_tests), grind (arith, nat_tests), grind (arith, nat_tests))
 
 -- A function of the parts of a word, at the parts that a layout fixes.
