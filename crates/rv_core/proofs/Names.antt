@@ -6,7 +6,7 @@ use Rattle.rv_core.specs.declared.instr.Op.TheVariants as op
 use Rattle.rv_core.specs.declared.instr.Instr.{Instr}
 use Rattle.rv_core.specs.declared.listing.Layout.{Layout}
 use Rattle.rv_core.specs.declared.listing.Layout.TheVariants.{U, J, I, S, B, R, Shift, ShiftW, Ignored, Whole}
-use Rattle.rv_core.specs.Listing.{form, fits, has_form, bits, listed, decoded, fields_of, op_at, op_of, Decodes}
+use Rattle.rv_core.specs.Listing.{form, is_layout_at, has_form, bits, listed, decoded, fields_of, op_at, op_of, Decodes}
 
 pub one : (a b : ℕ) → eqb a b ≡ true → a ≡ b
 one a b h = grind (arith, nat_tests)
@@ -18,39 +18,39 @@ pub three : (a b c d e f : ℕ) → (eqb a b && eqb c d && eqb e f) ≡ true →
 three a b c d e f h = (grind (arith, nat_tests), grind (arith, nat_tests), grind (arith, nat_tests))
 
 -- A function of the parts of a word, at the parts that a layout fixes.
-abbrev under : {A : Type 0} → (ℕ → ℕ → ℕ → ℕ → ℕ → A) → Layout → ℕ → ℕ → ℕ → ℕ → A
-under g (U opcode) w f3 f6 f7 = g w opcode f3 f6 f7
-under g (J opcode) w f3 f6 f7 = g w opcode f3 f6 f7
-under g (I opcode f3') w f3 f6 f7 = g w opcode f3' f6 f7
-under g (S opcode f3') w f3 f6 f7 = g w opcode f3' f6 f7
-under g (B opcode f3') w f3 f6 f7 = g w opcode f3' f6 f7
-under g (R opcode f3' f7') w f3 f6 f7 = g w opcode f3' f6 f7'
-under g (Shift opcode f3' f6') w f3 f6 f7 = g w opcode f3' f6' f7
-under g (ShiftW opcode f3' f7') w f3 f6 f7 = g w opcode f3' f6 f7'
-under g (Ignored opcode f3') w f3 f6 f7 = g w opcode f3' f6 f7
-under g (Whole word) w f3 f6 f7 = g word (bits word 6 0) f3 f6 f7
+abbrev at_layout : {A : Type 0} → (ℕ → ℕ → ℕ → ℕ → ℕ → A) → Layout → ℕ → ℕ → ℕ → ℕ → A
+at_layout g (U opcode) w f3 f6 f7 = g w opcode f3 f6 f7
+at_layout g (J opcode) w f3 f6 f7 = g w opcode f3 f6 f7
+at_layout g (I opcode f3') w f3 f6 f7 = g w opcode f3' f6 f7
+at_layout g (S opcode f3') w f3 f6 f7 = g w opcode f3' f6 f7
+at_layout g (B opcode f3') w f3 f6 f7 = g w opcode f3' f6 f7
+at_layout g (R opcode f3' f7') w f3 f6 f7 = g w opcode f3' f6 f7'
+at_layout g (Shift opcode f3' f6') w f3 f6 f7 = g w opcode f3' f6' f7
+at_layout g (ShiftW opcode f3' f7') w f3 f6 f7 = g w opcode f3' f6 f7'
+at_layout g (Ignored opcode f3') w f3 f6 f7 = g w opcode f3' f6 f7
+at_layout g (Whole word) w f3 f6 f7 = g word (bits word 6 0) f3 f6 f7
 
-under-fits : {A : Type 0} (g : ℕ → ℕ → ℕ → ℕ → ℕ → A) (f : Layout) (w opcode f3 f6 f7 : ℕ) → fits w opcode f3 f6 f7 f ≡ true → under g f w f3 f6 f7 ≡ g w opcode f3 f6 f7
-under-fits g (U opcode') w opcode f3 f6 f7 h = let e = one opcode opcode' h in cc
-under-fits g (J opcode') w opcode f3 f6 f7 h = let e = one opcode opcode' h in cc
-under-fits g (I opcode' f3') w opcode f3 f6 f7 h = let e = two opcode opcode' f3 f3' h in cc
-under-fits g (S opcode' f3') w opcode f3 f6 f7 h = let e = two opcode opcode' f3 f3' h in cc
-under-fits g (B opcode' f3') w opcode f3 f6 f7 h = let e = two opcode opcode' f3 f3' h in cc
-under-fits g (R opcode' f3' f7') w opcode f3 f6 f7 h = let e = three opcode opcode' f3 f3' f7 f7' h in cc
-under-fits g (Shift opcode' f3' f6') w opcode f3 f6 f7 h = let e = three opcode opcode' f3 f3' f6 f6' h in cc
-under-fits g (ShiftW opcode' f3' f7') w opcode f3 f6 f7 h = let e = three opcode opcode' f3 f3' f7 f7' h in cc
-under-fits g (Ignored opcode' f3') w opcode f3 f6 f7 h = let e = two opcode opcode' f3 f3' h in cc
-under-fits g (Whole word) w opcode f3 f6 f7 h = let e = two opcode (bits word 6 0) w word h in cc
+at_layout-is : {A : Type 0} (g : ℕ → ℕ → ℕ → ℕ → ℕ → A) (f : Layout) (w opcode f3 f6 f7 : ℕ) → is_layout_at w opcode f3 f6 f7 f ≡ true → at_layout g f w f3 f6 f7 ≡ g w opcode f3 f6 f7
+at_layout-is g (U opcode') w opcode f3 f6 f7 h = let e = one opcode opcode' h in cc
+at_layout-is g (J opcode') w opcode f3 f6 f7 h = let e = one opcode opcode' h in cc
+at_layout-is g (I opcode' f3') w opcode f3 f6 f7 h = let e = two opcode opcode' f3 f3' h in cc
+at_layout-is g (S opcode' f3') w opcode f3 f6 f7 h = let e = two opcode opcode' f3 f3' h in cc
+at_layout-is g (B opcode' f3') w opcode f3 f6 f7 h = let e = two opcode opcode' f3 f3' h in cc
+at_layout-is g (R opcode' f3' f7') w opcode f3 f6 f7 h = let e = three opcode opcode' f3 f3' f7 f7' h in cc
+at_layout-is g (Shift opcode' f3' f6') w opcode f3 f6 f7 h = let e = three opcode opcode' f3 f3' f6 f6' h in cc
+at_layout-is g (ShiftW opcode' f3' f7') w opcode f3 f6 f7 h = let e = three opcode opcode' f3 f3' f7 f7' h in cc
+at_layout-is g (Ignored opcode' f3') w opcode f3 f6 f7 h = let e = two opcode opcode' f3 f3' h in cc
+at_layout-is g (Whole word) w opcode f3 f6 f7 h = let e = two opcode (bits word 6 0) w word h in cc
 
 -- Each instruction is the first of the listing that has the parts that its layout fixes.
-op_at-form : (o : Op) (w f3 f6 f7 : ℕ) → under op_at (form o) w f3 f6 f7 ≡ Some o
+op_at-form : (o : Op) (w f3 f6 f7 : ℕ) → at_layout op_at (form o) w f3 f6 f7 ≡ Some o
 op_at-form op.Lui w f3 f6 f7 = refl
 op_at-form _ w f3 f6 f7 = refl
 
 -- The instruction whose layout a word has is the one that the listing finds.
 pub op_of-form : (o : Op) (w : ℕ) → has_form w (form o) ≡ true → op_of w ≡ Some o
 unfolding op_of
-op_of-form o w h = sym (under-fits op_at (form o) w _ _ _ _ h) ∙ op_at-form o w _ _ _
+op_of-form o w h = sym (at_layout-is op_at (form o) w _ _ _ _ h) ∙ op_at-form o w _ _ _
 
 some_same : {A : Type 0} (x y : A) → Some x ≡ Some y → x ≡ y
 some_same x y e = cc

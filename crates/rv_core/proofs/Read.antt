@@ -41,34 +41,34 @@ is_encodable-fields_under f w o h =
     both _ _ (both _ _ (both _ _ rd rs1) rs2) h
 
 -- A number in two's complement can be spelled, as it was.
-spelled_again : (half n : ℕ) → n < 2 * half → (is_signed_by half (signed_by half n) ≡ true) × (unsigned_by half (signed_by half n) ≡ n)
-spelled_again half n h = (is_signed_by-signed_by half n h, unsigned_by-signed_by half n h)
+signed_by-laws : (half n : ℕ) → n < 2 * half → (is_signed_by half (signed_by half n) ≡ true) × (unsigned_by half (signed_by half n) ≡ n)
+signed_by-laws half n h = (is_signed_by-signed_by half n h, unsigned_by-signed_by half n h)
 
 spells-has_form : (f : Layout) (w : ℕ) (o : Op) → w < 2 ^ 32 → reads_all f ≡ true → has_form w f ≡ true → Spells w o f
 spells-has_form (U opcode) w o b r h =
     let e = one (bits w 6 0) opcode h in
     let n = bits w 31 12 * 2 ^ 12 in
-    let s = spelled_again (2 ^ 31) n (omega arith) in
+    let s = signed_by-laws (2 ^ 31) n (omega arith) in
     (is_encodable-fields_under (U opcode) w o (both _ _ s.0 (same _ _ (omega arith))), omega arith)
 spells-has_form (J opcode) w o b r h =
     let e = one (bits w 6 0) opcode h in
     let n = bits w 31 31 * 2 ^ 20 + bits w 19 12 * 2 ^ 12 + bits w 20 20 * 2 ^ 11 + bits w 30 21 * 2 in
-    let s = spelled_again (2 ^ 20) n (omega arith) in
+    let s = signed_by-laws (2 ^ 20) n (omega arith) in
     (is_encodable-fields_under (J opcode) w o (both _ _ s.0 (same _ _ (omega arith))), omega arith)
 spells-has_form (I opcode f3) w o b r h =
     let e = two (bits w 6 0) opcode (bits w 14 12) f3 h in
     let n = bits w 31 20 in
-    let s = spelled_again (2 ^ 11) n (omega arith) in
+    let s = signed_by-laws (2 ^ 11) n (omega arith) in
     (is_encodable-fields_under (I opcode f3) w o s.0, omega arith)
 spells-has_form (S opcode f3) w o b r h =
     let e = two (bits w 6 0) opcode (bits w 14 12) f3 h in
     let n = bits w 31 25 * 2 ^ 5 + bits w 11 7 in
-    let s = spelled_again (2 ^ 11) n (omega arith) in
+    let s = signed_by-laws (2 ^ 11) n (omega arith) in
     (is_encodable-fields_under (S opcode f3) w o s.0, omega arith)
 spells-has_form (B opcode f3) w o b r h =
     let e = two (bits w 6 0) opcode (bits w 14 12) f3 h in
     let n = bits w 31 31 * 2 ^ 12 + bits w 7 7 * 2 ^ 11 + bits w 30 25 * 2 ^ 5 + bits w 11 8 * 2 in
-    let s = spelled_again (2 ^ 12) n (omega arith) in
+    let s = signed_by-laws (2 ^ 12) n (omega arith) in
     (is_encodable-fields_under (B opcode f3) w o (both _ _ s.0 (same _ _ (omega arith))), omega arith)
 spells-has_form (R opcode f3 f7) w o b r h =
     let e = three (bits w 6 0) opcode (bits w 14 12) f3 (bits w 31 25) f7 h in

@@ -74,81 +74,81 @@ abbrev Holds : Layout → ℕ → Instr → Type 0
 Holds f w i = (has_form w f ≡ true) × (fields_under w i.op f ≡ i)
 
 -- From the fields at their places.
-holds : (f : Layout) (i : Instr) → has_form (spelling f i) f ≡ true → cond (has_rd f) (bits (spelling f i) 11 7) 0 ≡ i.rd → cond (has_rs1 f) (bits (spelling f i) 19 15) 0 ≡ i.rs1 → cond (has_rs2 f) (bits (spelling f i) 24 20) 0 ≡ i.rs2 → immediate (spelling f i) f ≡ i.imm → Holds f (spelling f i) i
-holds f i h rd rs1 rs2 imm = (h, λ t. record { op = i.op; rd = rd t; rs1 = rs1 t; rs2 = rs2 t; imm = imm t })
+Holds-fields : (f : Layout) (i : Instr) → has_form (spelling f i) f ≡ true → cond (has_rd f) (bits (spelling f i) 11 7) 0 ≡ i.rd → cond (has_rs1 f) (bits (spelling f i) 19 15) 0 ≡ i.rs1 → cond (has_rs2 f) (bits (spelling f i) 24 20) 0 ≡ i.rs2 → immediate (spelling f i) f ≡ i.imm → Holds f (spelling f i) i
+Holds-fields f i h rd rs1 rs2 imm = (h, λ t. record { op = i.op; rd = rd t; rs1 = rs1 t; rs2 = rs2 t; imm = imm t })
 
 -- A spelling has its layout, and each field stands at its place.
-holds-spelling : (f : Layout) (i : Instr) → HasRoom f → InRange f i → Holds f (spelling f i) i
-holds-spelling (U opcode) i room r =
+Holds-spelling : (f : Layout) (i : Instr) → HasRoom f → InRange f i → Holds f (spelling f i) i
+Holds-spelling (U opcode) i room r =
     let n = unsigned_by (2 ^ 31) i.imm in
     let parts = and_true (is_signed_by (2 ^ 31) i.imm) (eqb (n % 2 ^ 12) 0) r.immediate in
     let whole : n % 2 ^ 12 ≡ 0 = equal _ _ parts.1 in
     let in_n : n < 2 * 2 ^ 31 = unsigned_by-bound (2 ^ 31) i.imm parts.0 in
     let w = spelling (U opcode) i in
     let at_n : bits w 31 12 * 2 ^ 12 ≡ n = omega arith in
-    holds (U opcode) i (same (bits w 6 0) opcode (omega arith)) (omega arith) (omega arith) (omega arith)
+    Holds-fields (U opcode) i (same (bits w 6 0) opcode (omega arith)) (omega arith) (omega arith) (omega arith)
     (ap (signed_by (2 ^ 31)) at_n ∙ signed_by-unsigned_by (2 ^ 31) i.imm parts.0)
-holds-spelling (J opcode) i room r =
+Holds-spelling (J opcode) i room r =
     let n = unsigned_by (2 ^ 20) i.imm in
     let parts = and_true (is_signed_by (2 ^ 20) i.imm) (eqb (n % 2) 0) r.immediate in
     let whole : n % 2 ≡ 0 = equal _ _ parts.1 in
     let in_n : n < 2 * 2 ^ 20 = unsigned_by-bound (2 ^ 20) i.imm parts.0 in
     let w = spelling (J opcode) i in
     let at_n : bits w 31 31 * 2 ^ 20 + bits w 19 12 * 2 ^ 12 + bits w 20 20 * 2 ^ 11 + bits w 30 21 * 2 ≡ n = omega arith in
-    holds (J opcode) i (same (bits w 6 0) opcode (omega arith)) (omega arith) (omega arith) (omega arith)
+    Holds-fields (J opcode) i (same (bits w 6 0) opcode (omega arith)) (omega arith) (omega arith) (omega arith)
     (ap (signed_by (2 ^ 20)) at_n ∙ signed_by-unsigned_by (2 ^ 20) i.imm parts.0)
-holds-spelling (I opcode f3) i room r =
+Holds-spelling (I opcode f3) i room r =
     let n = unsigned_by (2 ^ 11) i.imm in
     let in_n : n < 2 * 2 ^ 11 = unsigned_by-bound (2 ^ 11) i.imm r.immediate in
     let w = spelling (I opcode f3) i in
     let at_n : bits w 31 20 ≡ n = omega arith in
-    holds (I opcode f3) i (two_same (bits w 6 0) opcode (bits w 14 12) f3 (omega arith) (omega arith)) (omega arith) (omega arith) (omega arith)
+    Holds-fields (I opcode f3) i (two_same (bits w 6 0) opcode (bits w 14 12) f3 (omega arith) (omega arith)) (omega arith) (omega arith) (omega arith)
     (ap (signed_by (2 ^ 11)) at_n ∙ signed_by-unsigned_by (2 ^ 11) i.imm r.immediate)
-holds-spelling (S opcode f3) i room r =
+Holds-spelling (S opcode f3) i room r =
     let n = unsigned_by (2 ^ 11) i.imm in
     let in_n : n < 2 * 2 ^ 11 = unsigned_by-bound (2 ^ 11) i.imm r.immediate in
     let w = spelling (S opcode f3) i in
     let at_n : bits w 31 25 * 2 ^ 5 + bits w 11 7 ≡ n = omega arith in
-    holds (S opcode f3) i (two_same (bits w 6 0) opcode (bits w 14 12) f3 (omega arith) (omega arith)) (omega arith) (omega arith) (omega arith)
+    Holds-fields (S opcode f3) i (two_same (bits w 6 0) opcode (bits w 14 12) f3 (omega arith) (omega arith)) (omega arith) (omega arith) (omega arith)
     (ap (signed_by (2 ^ 11)) at_n ∙ signed_by-unsigned_by (2 ^ 11) i.imm r.immediate)
-holds-spelling (B opcode f3) i room r =
+Holds-spelling (B opcode f3) i room r =
     let n = unsigned_by (2 ^ 12) i.imm in
     let parts = and_true (is_signed_by (2 ^ 12) i.imm) (eqb (n % 2) 0) r.immediate in
     let whole : n % 2 ≡ 0 = equal _ _ parts.1 in
     let in_n : n < 2 * 2 ^ 12 = unsigned_by-bound (2 ^ 12) i.imm parts.0 in
     let w = spelling (B opcode f3) i in
     let at_n : bits w 31 31 * 2 ^ 12 + bits w 7 7 * 2 ^ 11 + bits w 30 25 * 2 ^ 5 + bits w 11 8 * 2 ≡ n = omega arith in
-    holds (B opcode f3) i (two_same (bits w 6 0) opcode (bits w 14 12) f3 (omega arith) (omega arith)) (omega arith) (omega arith) (omega arith)
+    Holds-fields (B opcode f3) i (two_same (bits w 6 0) opcode (bits w 14 12) f3 (omega arith) (omega arith)) (omega arith) (omega arith) (omega arith)
     (ap (signed_by (2 ^ 12)) at_n ∙ signed_by-unsigned_by (2 ^ 12) i.imm parts.0)
-holds-spelling (R opcode f3 f7) i room r =
+Holds-spelling (R opcode f3 f7) i room r =
     let w = spelling (R opcode f3 f7) i in
-    holds (R opcode f3 f7) i (three_same (bits w 6 0) opcode (bits w 14 12) f3 (bits w 31 25) f7 (omega arith) (omega arith) (omega arith)) (omega arith) (omega arith) (omega arith) (zero_below i.imm r.immediate)
-holds-spelling (Shift opcode f3 f6) i room r =
+    Holds-fields (R opcode f3 f7) i (three_same (bits w 6 0) opcode (bits w 14 12) f3 (bits w 31 25) f7 (omega arith) (omega arith) (omega arith)) (omega arith) (omega arith) (omega arith) (zero_below i.imm r.immediate)
+Holds-spelling (Shift opcode f3 f6) i room r =
     let n = unsigned_by (2 ^ 6) i.imm in
     let in_n : n < 2 ^ 6 = is_below-bound (2 ^ 6) (2 ^ 6) i.imm r.immediate in
     let w = spelling (Shift opcode f3 f6) i in
     let at_n : bits w 25 20 ≡ n = omega arith in
-    holds (Shift opcode f3 f6) i (three_same (bits w 6 0) opcode (bits w 14 12) f3 (bits w 31 26) f6 (omega arith) (omega arith) (omega arith)) (omega arith) (omega arith) (omega arith)
+    Holds-fields (Shift opcode f3 f6) i (three_same (bits w 6 0) opcode (bits w 14 12) f3 (bits w 31 26) f6 (omega arith) (omega arith) (omega arith)) (omega arith) (omega arith) (omega arith)
     (ap pos at_n ∙ pos-unsigned_by (2 ^ 6) (2 ^ 6) i.imm r.immediate)
-holds-spelling (ShiftW opcode f3 f7) i room r =
+Holds-spelling (ShiftW opcode f3 f7) i room r =
     let n = unsigned_by (2 ^ 5) i.imm in
     let in_n : n < 2 ^ 5 = is_below-bound (2 ^ 5) (2 ^ 5) i.imm r.immediate in
     let w = spelling (ShiftW opcode f3 f7) i in
     let at_n : bits w 24 20 ≡ n = omega arith in
-    holds (ShiftW opcode f3 f7) i (three_same (bits w 6 0) opcode (bits w 14 12) f3 (bits w 31 25) f7 (omega arith) (omega arith) (omega arith)) (omega arith) (omega arith) (omega arith)
+    Holds-fields (ShiftW opcode f3 f7) i (three_same (bits w 6 0) opcode (bits w 14 12) f3 (bits w 31 25) f7 (omega arith) (omega arith) (omega arith)) (omega arith) (omega arith) (omega arith)
     (ap pos at_n ∙ pos-unsigned_by (2 ^ 5) (2 ^ 5) i.imm r.immediate)
-holds-spelling (Ignored opcode f3) i room r =
+Holds-spelling (Ignored opcode f3) i room r =
     let w = spelling (Ignored opcode f3) i in
-    holds (Ignored opcode f3) i (two_same (bits w 6 0) opcode (bits w 14 12) f3 (omega arith) (omega arith)) (omega arith) (omega arith) (omega arith) (zero_below i.imm r.immediate)
-holds-spelling (Whole word) i room r =
+    Holds-fields (Ignored opcode f3) i (two_same (bits w 6 0) opcode (bits w 14 12) f3 (omega arith) (omega arith)) (omega arith) (omega arith) (omega arith) (zero_below i.imm r.immediate)
+Holds-spelling (Whole word) i room r =
     let w = spelling (Whole word) i in
     let at_word : w ≡ word = omega arith in
-    holds (Whole word) i (both _ _ (same _ _ (ap (λ v. bits v 6 0) at_word)) (same _ _ at_word)) (omega arith) (omega arith) (omega arith) (zero_below i.imm r.immediate)
+    Holds-fields (Whole word) i (both _ _ (same _ _ (ap (λ v. bits v 6 0) at_word)) (same _ _ at_word)) (omega arith) (omega arith) (omega arith) (zero_below i.imm r.immediate)
 
 -- An instruction decodes from its spelling.
 pub decoded-spelling : (i : Instr) → is_encodable (form i.op) i ≡ true → decoded (spelling (form i.op) i) ≡ Some i
 decoded-spelling i e =
-    let h = holds-spelling (form i.op) i (HasRoom-form i.op) (in_range (form i.op) i e) in
+    let h = Holds-spelling (form i.op) i (HasRoom-form i.op) (in_range (form i.op) i e) in
     let d : Decodes (spelling (form i.op) i) (Some i) = (h.0, sym h.1) in
     decoded-is _ (Some i) d
 

@@ -85,27 +85,29 @@ HasRoom (ShiftW opcode f3 f7) = (opcode < 2 ^ 7) × (f3 < 2 ^ 3) × (f7 < 2 ^ 7)
 HasRoom (Ignored opcode f3) = (opcode < 2 ^ 7) × (f3 < 2 ^ 3)
 HasRoom (Whole word) = word < 2 ^ 32
 
--- A word w with this opcode (bits 6 to 0), funct3 (14 to 12) and upper bits (f6: 31 to 26, f7: 31 to 25) has a layout.
-abbrev pub fits : ℕ → ℕ → ℕ → ℕ → ℕ → Layout → Bool
-fits w opcode f3 f6 f7 (U opcode') = opcode == opcode'
-fits w opcode f3 f6 f7 (J opcode') = opcode == opcode'
-fits w opcode f3 f6 f7 (I opcode' f3') = opcode == opcode' && f3 == f3'
-fits w opcode f3 f6 f7 (S opcode' f3') = opcode == opcode' && f3 == f3'
-fits w opcode f3 f6 f7 (B opcode' f3') = opcode == opcode' && f3 == f3'
-fits w opcode f3 f6 f7 (R opcode' f3' f7') = opcode == opcode' && f3 == f3' && f7 == f7'
-fits w opcode f3 f6 f7 (Shift opcode' f3' f6') = opcode == opcode' && f3 == f3' && f6 == f6'
-fits w opcode f3 f6 f7 (ShiftW opcode' f3' f7') = opcode == opcode' && f3 == f3' && f7 == f7'
-fits w opcode f3 f6 f7 (Ignored opcode' f3') = opcode == opcode' && f3 == f3'
-fits w opcode f3 f6 f7 (Whole word) = opcode == bits word 6 0 && w == word
+-- A word w with these parts has a layout: the opcode (bits 6 to 0), f3 (14 to 12), f6 (31 to 26)
+-- and f7 (31 to 25).
+abbrev pub is_layout_at : ℕ → ℕ → ℕ → ℕ → ℕ → Layout → Bool
+is_layout_at w opcode f3 f6 f7 (U opcode') = opcode == opcode'
+is_layout_at w opcode f3 f6 f7 (J opcode') = opcode == opcode'
+is_layout_at w opcode f3 f6 f7 (I opcode' f3') = opcode == opcode' && f3 == f3'
+is_layout_at w opcode f3 f6 f7 (S opcode' f3') = opcode == opcode' && f3 == f3'
+is_layout_at w opcode f3 f6 f7 (B opcode' f3') = opcode == opcode' && f3 == f3'
+is_layout_at w opcode f3 f6 f7 (R opcode' f3' f7') = opcode == opcode' && f3 == f3' && f7 == f7'
+is_layout_at w opcode f3 f6 f7 (Shift opcode' f3' f6') = opcode == opcode' && f3 == f3' && f6 == f6'
+is_layout_at w opcode f3 f6 f7 (ShiftW opcode' f3' f7') = opcode == opcode' && f3 == f3' && f7 == f7'
+is_layout_at w opcode f3 f6 f7 (Ignored opcode' f3') = opcode == opcode' && f3 == f3'
+is_layout_at w opcode f3 f6 f7 (Whole word) = opcode == bits word 6 0 && w == word
 
 -- A word has the opcode and the function fields of a layout.
 abbrev pub has_form : ℕ → Layout → Bool
-has_form w f = fits w (bits w 6 0) (bits w 14 12) (bits w 31 26) (bits w 31 25) f
+has_form w f = is_layout_at w (bits w 6 0) (bits w 14 12) (bits w 31 26) (bits w 31 25) f
 
 -- The listed instruction whose layout a word with these parts has, if there is one.
 abbrev pub op_at : ℕ → ℕ → ℕ → ℕ → ℕ → Option Op
-op_at w opcode f3 f6 f7 = find (λ o. fits w opcode f3 f6 f7 (form o)) listed
+op_at w opcode f3 f6 f7 = find (λ o. is_layout_at w opcode f3 f6 f7 (form o)) listed
 
+-- The instruction whose layout a word has, by the word's parts.
 unfoldable pub op_of : ℕ → Option Op
 op_of w = op_at w (bits w 6 0) (bits w 14 12) (bits w 31 26) (bits w 31 25)
 
