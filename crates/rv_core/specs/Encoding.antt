@@ -1,5 +1,5 @@
--- Which instructions have a spelling as a word of 32 bits, and which word it is (RISC-V Unprivileged ISA,
--- "Base Instruction Formats" and "Immediate Encoding Variants").
+-- Which instructions have a spelling as a word of 32 bits, and which word it is
+-- (RISC-V Unprivileged ISA, "Base Instruction Formats" and "Immediate Encoding Variants").
 use Rattle.std.specs.Prelude.{◌≡◌, ℕ, suc, ◌+◌, ◌-◌, ◌*◌, ◌%◌, ◌^◌, ◌==◌, Bool, false, ◌&&◌, if◌then◌else◌, nat_lt, Option, Some, None, ℤ, pos, negsuc, ◌⊎◌}
 use Rattle.rv_core.specs.declared.instr.Op.{Op}
 use Rattle.rv_core.specs.declared.instr.Op.TheVariants as op
@@ -67,10 +67,12 @@ abbrev pub store_bits : ℕ → ℕ
 store_bits n = bits n 4 0 * 2 ^ 7 + bits n 11 5 * 2 ^ 25
 
 abbrev pub branch_bits : ℕ → ℕ
-branch_bits n = bits n 11 11 * 2 ^ 7 + bits n 4 1 * 2 ^ 8 + bits n 10 5 * 2 ^ 25 + bits n 12 12 * 2 ^ 31
+branch_bits n =
+    bits n 11 11 * 2 ^ 7 + bits n 4 1 * 2 ^ 8 + bits n 10 5 * 2 ^ 25 + bits n 12 12 * 2 ^ 31
 
 abbrev pub jump_bits : ℕ → ℕ
-jump_bits n = bits n 19 12 * 2 ^ 12 + bits n 11 11 * 2 ^ 20 + bits n 10 1 * 2 ^ 21 + bits n 20 20 * 2 ^ 31
+jump_bits n =
+    bits n 19 12 * 2 ^ 12 + bits n 11 11 * 2 ^ 20 + bits n 10 1 * 2 ^ 21 + bits n 20 20 * 2 ^ 31
 
 abbrev pub immediate_bits : Layout → ℤ → ℕ
 immediate_bits (U opcode) z = unsigned_by (2 ^ 31) z
@@ -91,7 +93,8 @@ spelling f i = fixed f + registers i + immediate_bits f i.imm
 abbrev pub encoded_as : Layout → Instr → Option ℕ
 encoded_as f i = if is_encodable f i then Some (spelling f i) else None
 
--- The word that spells an instruction, if its fields are in range and those that it doesn't have are 0.
+-- The word that spells an instruction, if its fields are in range and those that it doesn't have
+-- are 0.
 unfoldable pub encoded : Instr → Option ℕ
 encoded i = encoded_as (form i.op) i
 

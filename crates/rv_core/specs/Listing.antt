@@ -1,5 +1,5 @@
--- How each instruction is spelled as a word of 32 bits (RISC-V Unprivileged ISA, "RV32/64G Instruction Set
--- Listings" and "Base Instruction Formats").
+-- How each instruction is spelled as a word of 32 bits (RISC-V Unprivileged ISA,
+-- "RV32/64G Instruction Set Listings" and "Base Instruction Formats").
 use Rattle.std.specs.Prelude.{◌≡◌, ℕ, ◌+◌, ◌-◌, ◌*◌, ◌/◌, ◌%◌, ◌^◌, ◌<◌, ◌==◌, Bool, true, false, ◌&&◌, if◌then◌else◌, nat_lt, IsTrue, Option, Some, None, option_map, find, List, ℤ, pos, ◌-ℤ◌}
 use Rattle.rv_core.specs.declared.instr.TheConstants.{OPS}
 use Rattle.rv_core.specs.declared.instr.Op.{Op}
@@ -95,7 +95,8 @@ is_layout_at w opcode f3 f6 f7 (S opcode' f3') = opcode == opcode' && f3 == f3'
 is_layout_at w opcode f3 f6 f7 (B opcode' f3') = opcode == opcode' && f3 == f3'
 is_layout_at w opcode f3 f6 f7 (R opcode' f3' f7') = opcode == opcode' && f3 == f3' && f7 == f7'
 is_layout_at w opcode f3 f6 f7 (Shift opcode' f3' f6') = opcode == opcode' && f3 == f3' && f6 == f6'
-is_layout_at w opcode f3 f6 f7 (ShiftW opcode' f3' f7') = opcode == opcode' && f3 == f3' && f7 == f7'
+is_layout_at w opcode f3 f6 f7 (ShiftW opcode' f3' f7') =
+    opcode == opcode' && f3 == f3' && f7 == f7'
 is_layout_at w opcode f3 f6 f7 (Ignored opcode' f3') = opcode == opcode' && f3 == f3'
 is_layout_at w opcode f3 f6 f7 (Whole word) = opcode == bits word 6 0 && w == word
 
@@ -184,7 +185,8 @@ fields_of w o = record {
   imm = immediate w (form o);
 }
 
--- A word spells an instruction that has the word's layout and fields, and nothing if no instruction has its layout.
+-- A word spells an instruction that has the word's layout and fields, and nothing if no
+-- instruction has its layout.
 abbrev pub Decodes : ℕ → Option Instr → Type 0
 Decodes w (Some i) = IsTrue (has_form w (form i.op)) × (i ≡ fields_of w i.op)
 Decodes w None = (o : Op) → has_form w (form o) ≡ false

@@ -1,5 +1,5 @@
--- What each instruction does (RISC-V Unprivileged ISA, "RV32I Base Integer Instruction Set", "RV64I Base
--- Integer Instruction Set" and "Zifencei"). Registers hold natural numbers below 2^64.
+-- What each instruction does (RISC-V Unprivileged ISA, "RV32I Base Integer Instruction Set",
+-- "RV64I Base Integer Instruction Set" and "Zifencei"). Registers hold natural numbers below 2^64.
 use Rattle.std.specs.Prelude.{ℕ, ◌+◌, ◌-◌, ◌*◌, ◌/◌, ◌%◌, ◌^◌, ◌==◌, Bool, true, false, not, if◌then◌else◌, nat_lt, ℤ, bit_and, bit_or, bit_xor, int_lt}
 use Rattle.std.specs.Int.{cast_signed, cast_unsigned, int_shr, w32, w64}
 use Rattle.rv_core.specs.Memory.{IsSize}
@@ -40,7 +40,8 @@ shift_right a k = cast_unsigned w64 (int_shr (signed a) k)
 abbrev pub shift_right_32 : ℕ → ℕ → ℕ
 shift_right_32 a k = cast_unsigned w64 (int_shr (cast_signed w32 (a % 2 ^ 32)) k)
 
--- One line an instruction. pc is its address, i its immediate modulo 2^64, a and b are what rs1 and rs2 hold.
+-- One line an instruction. pc is its address, i its immediate modulo 2^64, a and b are what rs1 and
+-- rs2 hold.
 abbrev pub row : Op → ℕ → ℕ → ℕ → ℕ → Effect
 row op.Lui pc i a b = Sets i
 row op.Auipc pc i a b = Sets (word (pc + i))

@@ -3,8 +3,8 @@ ghost use Rattle.rv_core.specs.Listing.{form, HasRoom};
 
 use crate::instr::Op;
 
-/// How an instruction is spelled as a word: its opcode (bits 6 to 0), then its funct3 (14 to 12) and funct7
-/// (31 to 25) where it has them.
+/// How an instruction is spelled as a word: its opcode (bits 6 to 0), then its funct3 (14 to 12) and
+/// funct7 (31 to 25) where it has them.
 #[derive(Clone, Copy, Debug, PartialEq, Eq)]
 pub enum Layout {
     /// A destination, and the upper 20 bits of an immediate.

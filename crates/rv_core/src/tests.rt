@@ -250,8 +250,8 @@ fn values(rt: HostRuntime) {
     }
 }
 
-/// Where an instruction leads: the program counter and x1, or a trap that changes neither. A branch's target that
-/// isn't a multiple of 4 counts only where the branch is taken.
+/// Where an instruction leads: the program counter and x1, or a trap that changes neither. A branch's
+/// target that isn't a multiple of 4 counts only where the branch is taken.
 #[test]
 fn ways(rt: HostRuntime) {
     let table = [
