@@ -3,7 +3,9 @@ use Rattle.std.specs.Prelude.{ℕ, ◌==◌, ◌||◌, if◌then◌else◌, List
 use Rattle.std.specs.Str.{bytes_eq}
 use Rattle.rv_core.specs.declared.instr.Op.{Op}
 use Rattle.rv_core.specs.declared.instr.Op.TheVariants as op
-use Rattle.rv_core.specs.Listing.{Form, U, J, I, S, B, R, Shift, ShiftW, Ignored, Whole, form, listed}
+use Rattle.rv_core.specs.declared.listing.Layout.{Layout}
+use Rattle.rv_core.specs.declared.listing.Layout.TheVariants.{U, J, I, S, B, R, Shift, ShiftW, Ignored, Whole}
+use Rattle.rv_core.specs.Listing.{form, listed}
 use Rattle.rv_asm.specs.declared.mnemonics.Shape.{Shape}
 use Rattle.rv_asm.specs.declared.mnemonics.Shape.TheVariants as shapes
 use Rattle.rv_asm.specs.declared.mnemonics.Pseudo.{Pseudo}
@@ -72,7 +74,7 @@ unfoldable pub op_named : List ℕ → Option Op
 op_named word = find (λ o. bytes_eq (word_of o) word) listed
 
 -- The operands of an instruction, by its layout. Loads (opcode 0x03) and JALR (0x67) have an address.
-abbrev pub shape_by : Form → Shape
+abbrev pub shape_by : Layout → Shape
 shape_by (U opcode) = shapes.Upper
 shape_by (J opcode) = shapes.Jump
 shape_by (I opcode f3) = if opcode == 0x03 || opcode == 0x67 then shapes.Load else shapes.Immediate

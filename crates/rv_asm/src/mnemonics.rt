@@ -1,7 +1,7 @@
 ghost use Rattle.std.specs.Prelude.{◌≡◌};
 ghost use Rattle.rv_asm.specs.Mnemonics.{word_of, op_named, shape_of, pseudo_word, pseudo_named, directive_word, directive_named};
 
-use rv_core::Op;
+use rv_core::{Layout, OPS, Op};
 
 /// Instructions that stand for others.
 #[derive(Clone, Copy)]
@@ -46,62 +46,6 @@ pub enum Shape {
     /// None.
     Alone,
 }
-
-const OPS: [Op; 53] = [
-    Op::Lui,
-    Op::Auipc,
-    Op::Jal,
-    Op::Jalr,
-    Op::Beq,
-    Op::Bne,
-    Op::Blt,
-    Op::Bge,
-    Op::Bltu,
-    Op::Bgeu,
-    Op::Lb,
-    Op::Lh,
-    Op::Lw,
-    Op::Ld,
-    Op::Lbu,
-    Op::Lhu,
-    Op::Lwu,
-    Op::Sb,
-    Op::Sh,
-    Op::Sw,
-    Op::Sd,
-    Op::Addi,
-    Op::Slti,
-    Op::Sltiu,
-    Op::Xori,
-    Op::Ori,
-    Op::Andi,
-    Op::Slli,
-    Op::Srli,
-    Op::Srai,
-    Op::Add,
-    Op::Sub,
-    Op::Sll,
-    Op::Slt,
-    Op::Sltu,
-    Op::Xor,
-    Op::Srl,
-    Op::Sra,
-    Op::Or,
-    Op::And,
-    Op::Addiw,
-    Op::Slliw,
-    Op::Srliw,
-    Op::Sraiw,
-    Op::Addw,
-    Op::Subw,
-    Op::Sllw,
-    Op::Srlw,
-    Op::Sraw,
-    Op::Fence,
-    Op::FenceI,
-    Op::Ecall,
-    Op::Ebreak,
-];
 
 const PSEUDOS: [Pseudo; 7] = [
     Pseudo::Li,
@@ -194,27 +138,15 @@ pub fn op_named(word: &[u8]) -> Option<Op>
 pub fn shape_of(op: Op) -> Shape
     ensures { result ≡ shape_of op }
 {
-    match op {
-        Op::Lui | Op::Auipc => Shape::Upper,
-        Op::Jal => Shape::Jump,
-        Op::Jalr | Op::Lb | Op::Lh | Op::Lw | Op::Ld | Op::Lbu | Op::Lhu | Op::Lwu => Shape::Load,
-        Op::Beq | Op::Bne | Op::Blt | Op::Bge | Op::Bltu | Op::Bgeu => Shape::Branch,
-        Op::Sb | Op::Sh | Op::Sw | Op::Sd => Shape::Store,
-        Op::Addi | Op::Slti | Op::Sltiu | Op::Xori | Op::Ori | Op::Andi | Op::Addiw =>
-            Shape::Immediate,
-        Op::Slli | Op::Srli | Op::Srai | Op::Slliw | Op::Srliw | Op::Sraiw => Shape::Immediate,
-        Op::Add
-        | Op::Sub
-        | Op::Sll
-        | Op::Slt
-        | Op::Sltu
-        | Op::Xor
-        | Op::Srl
-        | Op::Sra
-        | Op::Or
-        | Op::And => Shape::Registers,
-        Op::Addw | Op::Subw | Op::Sllw | Op::Srlw | Op::Sraw => Shape::Registers,
-        Op::Fence | Op::FenceI | Op::Ecall | Op::Ebreak => Shape::Alone,
+    match op.layout() {
+        Layout::U(_) => Shape::Upper,
+        Layout::J(_) => Shape::Jump,
+        Layout::I(0x03 | 0x67, _) => Shape::Load,
+        Layout::I(..) | Layout::Shift(..) | Layout::ShiftW(..) => Shape::Immediate,
+        Layout::S(..) => Shape::Store,
+        Layout::B(..) => Shape::Branch,
+        Layout::R(..) => Shape::Registers,
+        Layout::Ignored(..) | Layout::Whole(_) => Shape::Alone,
     }
 }
 

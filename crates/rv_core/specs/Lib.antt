@@ -2,5 +2,4 @@ pub mod Memory
 pub mod Listing
 pub mod Rows
 pub mod Machine
-pub mod Opcodes
 pub mod Encoding

@@ -1,27 +1,15 @@
--- How each instruction is spelled as a word of 32 bits (RISC-V Unprivileged ISA, "RV32/64G Instruction Set
--- Listings" and "Base Instruction Formats").
-use Rattle.std.specs.Prelude.{◌≡◌, ℕ, ◌+◌, ◌-◌, ◌*◌, ◌/◌, ◌%◌, ◌^◌, ◌<◌, ◌==◌, Bool, true, false, ◌&&◌, if◌then◌else◌, nat_lt, IsTrue, Option, Some, None, option_map, find, List, [], ◌∷◌, ℤ, pos, ◌-ℤ◌}
+-- How each instruction is spelled as a word of 32 bits (RISC-V Unprivileged ISA,
+-- "RV32/64G Instruction Set Listings" and "Base Instruction Formats").
+use Rattle.std.specs.Prelude.{◌≡◌, ℕ, ◌+◌, ◌-◌, ◌*◌, ◌/◌, ◌%◌, ◌^◌, ◌<◌, ◌==◌, Bool, true, false, ◌&&◌, if◌then◌else◌, nat_lt, IsTrue, Option, Some, None, option_map, find, List, ℤ, pos, ◌-ℤ◌}
+use Rattle.rv_core.specs.declared.instr.TheConstants.{OPS}
 use Rattle.rv_core.specs.declared.instr.Op.{Op}
 use Rattle.rv_core.specs.declared.instr.Op.TheVariants as op
 use Rattle.rv_core.specs.declared.instr.Instr.{Instr}
-
--- The layout of an instruction: its opcode (bits 6 to 0), then its funct3 (14 to 12) and funct7 (31 to 25)
--- where it has them. Shift has an amount of 6 bits below bits 31 to 26, ShiftW one of 5 bits; Ignored has
--- further fields that are ignored; Whole is one word.
-pub data Form : Type 0 where
-  U : ℕ → Form
-  J : ℕ → Form
-  I : ℕ → ℕ → Form
-  S : ℕ → ℕ → Form
-  B : ℕ → ℕ → Form
-  R : ℕ → ℕ → ℕ → Form
-  Shift : ℕ → ℕ → ℕ → Form
-  ShiftW : ℕ → ℕ → ℕ → Form
-  Ignored : ℕ → ℕ → Form
-  Whole : ℕ → Form
+use Rattle.rv_core.specs.declared.listing.Layout.{Layout}
+use Rattle.rv_core.specs.declared.listing.Layout.TheVariants.{U, J, I, S, B, R, Shift, ShiftW, Ignored, Whole}
 
 -- The listing, one line an instruction.
-abbrev pub form : Op → Form
+abbrev pub form : Op → Layout
 form op.Lui = U 0x37
 form op.Auipc = U 0x17
 form op.Jal = J 0x6f
@@ -78,33 +66,54 @@ form op.Ebreak = Whole 0x00100073
 
 -- All instructions.
 abbrev pub listed : List Op
-listed =
-    op.Lui ∷ op.Auipc ∷ op.Jal ∷ op.Jalr ∷ op.Beq ∷ op.Bne ∷ op.Blt ∷ op.Bge ∷ op.Bltu ∷ op.Bgeu
-    ∷ op.Lb ∷ op.Lh ∷ op.Lw ∷ op.Ld ∷ op.Lbu ∷ op.Lhu ∷ op.Lwu ∷ op.Sb ∷ op.Sh ∷ op.Sw ∷ op.Sd
-    ∷ op.Addi ∷ op.Slti ∷ op.Sltiu ∷ op.Xori ∷ op.Ori ∷ op.Andi ∷ op.Slli ∷ op.Srli ∷ op.Srai
-    ∷ op.Add ∷ op.Sub ∷ op.Sll ∷ op.Slt ∷ op.Sltu ∷ op.Xor ∷ op.Srl ∷ op.Sra ∷ op.Or ∷ op.And
-    ∷ op.Addiw ∷ op.Slliw ∷ op.Srliw ∷ op.Sraiw ∷ op.Addw ∷ op.Subw ∷ op.Sllw ∷ op.Srlw ∷ op.Sraw
-    ∷ op.Fence ∷ op.FenceI ∷ op.Ecall ∷ op.Ebreak ∷ []
+listed = OPS
 
 -- Bits high to low of a word, as a number.
 abbrev pub bits : ℕ → ℕ → ℕ → ℕ
 bits w high low = w / 2 ^ low % 2 ^ (high + 1 - low)
 
--- The word has the opcode and the function fields of a layout.
-abbrev pub has_form : ℕ → Form → Bool
-has_form w (U opcode) = bits w 6 0 == opcode
-has_form w (J opcode) = bits w 6 0 == opcode
-has_form w (I opcode f3) = bits w 6 0 == opcode && bits w 14 12 == f3
-has_form w (S opcode f3) = bits w 6 0 == opcode && bits w 14 12 == f3
-has_form w (B opcode f3) = bits w 6 0 == opcode && bits w 14 12 == f3
-has_form w (R opcode f3 f7) = bits w 6 0 == opcode && bits w 14 12 == f3 && bits w 31 25 == f7
-has_form w (Shift opcode f3 f6) = bits w 6 0 == opcode && bits w 14 12 == f3 && bits w 31 26 == f6
-has_form w (ShiftW opcode f3 f7) = bits w 6 0 == opcode && bits w 14 12 == f3 && bits w 31 25 == f7
-has_form w (Ignored opcode f3) = bits w 6 0 == opcode && bits w 14 12 == f3
-has_form w (Whole word) = w == word
+-- The opcode and the function fields of a layout fit into their bits.
+abbrev pub HasRoom : Layout → Type 0
+HasRoom (U opcode) = opcode < 2 ^ 7
+HasRoom (J opcode) = opcode < 2 ^ 7
+HasRoom (I opcode f3) = (opcode < 2 ^ 7) × (f3 < 2 ^ 3)
+HasRoom (S opcode f3) = (opcode < 2 ^ 7) × (f3 < 2 ^ 3)
+HasRoom (B opcode f3) = (opcode < 2 ^ 7) × (f3 < 2 ^ 3)
+HasRoom (R opcode f3 f7) = (opcode < 2 ^ 7) × (f3 < 2 ^ 3) × (f7 < 2 ^ 7)
+HasRoom (Shift opcode f3 f6) = (opcode < 2 ^ 7) × (f3 < 2 ^ 3) × (f6 < 2 ^ 6)
+HasRoom (ShiftW opcode f3 f7) = (opcode < 2 ^ 7) × (f3 < 2 ^ 3) × (f7 < 2 ^ 7)
+HasRoom (Ignored opcode f3) = (opcode < 2 ^ 7) × (f3 < 2 ^ 3)
+HasRoom (Whole word) = word < 2 ^ 32
+
+-- A word w with these parts has a layout: the opcode (bits 6 to 0), f3 (14 to 12), f6 (31 to 26)
+-- and f7 (31 to 25).
+abbrev pub is_layout_at : ℕ → ℕ → ℕ → ℕ → ℕ → Layout → Bool
+is_layout_at w opcode f3 f6 f7 (U opcode') = opcode == opcode'
+is_layout_at w opcode f3 f6 f7 (J opcode') = opcode == opcode'
+is_layout_at w opcode f3 f6 f7 (I opcode' f3') = opcode == opcode' && f3 == f3'
+is_layout_at w opcode f3 f6 f7 (S opcode' f3') = opcode == opcode' && f3 == f3'
+is_layout_at w opcode f3 f6 f7 (B opcode' f3') = opcode == opcode' && f3 == f3'
+is_layout_at w opcode f3 f6 f7 (R opcode' f3' f7') = opcode == opcode' && f3 == f3' && f7 == f7'
+is_layout_at w opcode f3 f6 f7 (Shift opcode' f3' f6') = opcode == opcode' && f3 == f3' && f6 == f6'
+is_layout_at w opcode f3 f6 f7 (ShiftW opcode' f3' f7') =
+    opcode == opcode' && f3 == f3' && f7 == f7'
+is_layout_at w opcode f3 f6 f7 (Ignored opcode' f3') = opcode == opcode' && f3 == f3'
+is_layout_at w opcode f3 f6 f7 (Whole word) = opcode == bits word 6 0 && w == word
+
+-- A word has the opcode and the function fields of a layout.
+abbrev pub has_form : ℕ → Layout → Bool
+has_form w f = is_layout_at w (bits w 6 0) (bits w 14 12) (bits w 31 26) (bits w 31 25) f
+
+-- The listed instruction whose layout a word with these parts has, if there is one.
+abbrev pub op_at : ℕ → ℕ → ℕ → ℕ → ℕ → Option Op
+op_at w opcode f3 f6 f7 = find (λ o. is_layout_at w opcode f3 f6 f7 (form o)) listed
+
+-- The instruction whose layout a word has, by the word's parts.
+unfoldable pub op_of : ℕ → Option Op
+op_of w = op_at w (bits w 6 0) (bits w 14 12) (bits w 31 26) (bits w 31 25)
 
 -- Which of the fields rd (bits 11 to 7), rs1 (19 to 15) and rs2 (24 to 20) a layout has.
-abbrev pub has_rd : Form → Bool
+abbrev pub has_rd : Layout → Bool
 has_rd (U opcode) = true
 has_rd (J opcode) = true
 has_rd (I opcode f3) = true
@@ -116,7 +125,7 @@ has_rd (ShiftW opcode f3 f7) = true
 has_rd (Ignored opcode f3) = false
 has_rd (Whole word) = false
 
-abbrev pub has_rs1 : Form → Bool
+abbrev pub has_rs1 : Layout → Bool
 has_rs1 (U opcode) = false
 has_rs1 (J opcode) = false
 has_rs1 (I opcode f3) = true
@@ -128,7 +137,7 @@ has_rs1 (ShiftW opcode f3 f7) = true
 has_rs1 (Ignored opcode f3) = false
 has_rs1 (Whole word) = false
 
-abbrev pub has_rs2 : Form → Bool
+abbrev pub has_rs2 : Layout → Bool
 has_rs2 (U opcode) = false
 has_rs2 (J opcode) = false
 has_rs2 (I opcode f3) = false
@@ -154,7 +163,7 @@ jump_distance w = signed_by (2 ^ 20)
     (bits w 31 31 * 2 ^ 20 + bits w 19 12 * 2 ^ 12 + bits w 20 20 * 2 ^ 11 + bits w 30 21 * 2)
 
 -- The immediate of a word. U's has twelve zero bits below.
-abbrev pub immediate : ℕ → Form → ℤ
+abbrev pub immediate : ℕ → Layout → ℤ
 immediate w (U opcode) = signed_by (2 ^ 31) (bits w 31 12 * 2 ^ 12)
 immediate w (J opcode) = jump_distance w
 immediate w (I opcode f3) = signed_by (2 ^ 11) (bits w 31 20)
@@ -176,7 +185,8 @@ fields_of w o = record {
   imm = immediate w (form o);
 }
 
--- A word spells an instruction that has the word's layout and fields, and nothing if no instruction has its layout.
+-- A word spells an instruction that has the word's layout and fields, and nothing if no
+-- instruction has its layout.
 abbrev pub Decodes : ℕ → Option Instr → Type 0
 Decodes w (Some i) = IsTrue (has_form w (form i.op)) × (i ≡ fields_of w i.op)
 Decodes w None = (o : Op) → has_form w (form o) ≡ false

@@ -1,5 +1,5 @@
--- The machine: one instruction, and a run of several, on registers, program counter and memory (RISC-V
--- Unprivileged ISA, "Programmers' Model for Base Integer ISA"; the causes of traps are those of the
+-- The machine: one instruction, and a run of several, on registers, program counter and memory
+-- (RISC-V Unprivileged ISA, "Programmers' Model for Base Integer ISA"; the causes of traps are those of the
 -- Privileged ISA, "Machine Cause Register").
 use Rattle.std.specs.Prelude.{◌≡◌, ℕ, zero, suc, ◌+◌, ◌-◌, ◌*◌, ◌%◌, ◌==◌, Bool, true, false, if◌then◌else◌, Option, Some, None, slice_index, slice_set}
 use Rattle.std.specs.Int.{cast_unsigned, w64}
@@ -39,9 +39,11 @@ pub data Outcome : Type 0 where
 abbrev pub sets : Context → Memory → ℕ → ℕ → Outcome
 sets cx m rd value = Goes (at (with_register cx rd value) (next cx)) m
 
--- A jump: the destination gets the next instruction's address. A target that isn't a multiple of 4 is cause 0.
+-- A jump: the destination gets the next instruction's address. A target that isn't a multiple of 4
+-- is cause 0.
 abbrev pub jumps : Context → Memory → ℕ → ℕ → Outcome
-jumps cx m rd to = if to % 4 == 0 then Goes (at (with_register cx rd (next cx)) to) m else Faults 0 to
+jumps cx m rd to =
+    if to % 4 == 0 then Goes (at (with_register cx rd (next cx)) to) m else Faults 0 to
 
 -- A branch that isn't taken doesn't test its target.
 abbrev pub branches : Context → Memory → Bool → ℕ → Outcome
@@ -59,7 +61,8 @@ loads cx m rd from size sign (Some value) = sets cx m rd (loaded_value size sign
 
 -- A store to a byte that isn't there or can't be written is cause 7.
 abbrev pub stores : Context → Memory → ℕ → ℕ → ℕ → Outcome
-stores cx m to size value = if storable m to size then Goes (at cx (next cx)) (stored m to size value) else Faults 7 to
+stores cx m to size value =
+    if storable m to size then Goes (at cx (next cx)) (stored m to size value) else Faults 7 to
 
 abbrev pub outcome : Context → Memory → ℕ → Effect → Outcome
 outcome cx m rd (Sets value) = sets cx m rd value
@@ -72,7 +75,8 @@ outcome cx m rd (Traps cause value) = Faults cause value
 
 -- An instruction at the program counter.
 abbrev pub executed : Context → Memory → Instr → Outcome
-executed cx m i = outcome cx m i.rd (row i.op cx.pc (cast_unsigned w64 i.imm) (register cx i.rs1) (register cx i.rs2))
+executed cx m i = outcome cx m i.rd
+    (row i.op cx.pc (cast_unsigned w64 i.imm) (register cx i.rs1) (register cx i.rs2))
 
 -- A word that spells no instruction is cause 2.
 abbrev pub executed_word : Context → Memory → ℕ → Option Instr → Outcome
@@ -93,7 +97,8 @@ abbrev pub Gives : Outcome → Context → Memory → Option Trap → Context �
 Gives o cx m None cx' m' = o ≡ Goes cx' m'
 Gives o cx m (Some trap) cx' m' = (o ≡ Faults trap.cause trap.value) × (cx' ≡ cx) × (m' ≡ m)
 
--- Where a run of instructions ends: registers, memory, and the cause and value of the trap that ended it, if one did.
+-- Where a run of instructions ends: registers, memory, and the cause and value of the trap that
+-- ended it, if one did.
 pub record Reached : Type 0 where
   pub context : Context
   pub memory : Memory
@@ -101,9 +106,11 @@ pub record Reached : Type 0 where
 
 abbrev pub go_on : (Context → Memory → Reached) → Context → Memory → Outcome → Reached
 go_on rest cx m (Goes cx' m') = rest cx' m'
-go_on rest cx m (Faults cause value) = record { context = cx; memory = m; trap = Some (cause, value) }
+go_on rest cx m (Faults cause value) =
+    record { context = cx; memory = m; trap = Some (cause, value) }
 
--- A run of n instructions, or up to the first trap, which leaves all as it was before its instruction.
+-- A run of n instructions, or up to the first trap, which leaves all as it was before its
+-- instruction.
 unfoldable pub instructions : ℕ → Context → Memory → Reached
 instructions zero cx m = record { context = cx; memory = m; trap = None }
 instructions (suc n) cx m = go_on (instructions n) cx m (instruction cx m)

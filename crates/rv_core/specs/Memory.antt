@@ -1,5 +1,5 @@
--- Memory as the processor sees it: a map from addresses to bytes with rights (RISC-V Unprivileged ISA,
--- "Memory"). Words are little-endian, and addresses wrap modulo 2^64.
+-- Memory as the processor sees it: a map from addresses to bytes with rights
+-- (RISC-V Unprivileged ISA, "Memory"). Words are little-endian, and addresses wrap modulo 2^64.
 use Rattle.std.specs.Prelude.{◌≡◌, ℕ, zero, suc, ◌+◌, ◌*◌, ◌%◌, ◌/◌, ◌^◌, ◌==◌, Bool, if◌then◌else◌, bit_and, is_some, ◌⊎◌}
 use Rattle.std.specs.declared.option.Option.{Option}
 use Rattle.std.specs.declared.option.Option.TheVariants.{None, Some}
@@ -51,7 +51,8 @@ with_byte_at m at byte = λ a. if a == at then cell_with (m a) byte else m a
 -- The memory with the low n bytes of a number from an address on.
 abbrev pub written : Memory → ℕ → ℕ → ℕ → Memory
 written m at zero value = m
-written m at (suc n) value = written (with_byte_at m at (value % 256)) ((at + 1) % 2 ^ 64) n (value / 256)
+written m at (suc n) value =
+    written (with_byte_at m at (value % 256)) ((at + 1) % 2 ^ 64) n (value / 256)
 
 -- A store: all the bytes, or none where one isn't there or can't be written.
 abbrev pub stored : Memory → ℕ → ℕ → ℕ → Memory

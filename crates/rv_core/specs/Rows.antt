@@ -1,8 +1,9 @@
--- What each instruction does (RISC-V Unprivileged ISA, "RV32I Base Integer Instruction Set", "RV64I Base
--- Integer Instruction Set" and "Zifencei"). Registers hold natural numbers below 2^64.
+-- What each instruction does (RISC-V Unprivileged ISA, "RV32I Base Integer Instruction Set",
+-- "RV64I Base Integer Instruction Set" and "Zifencei"). Registers hold natural numbers below 2^64.
 use Rattle.std.specs.Prelude.{ℕ, ◌+◌, ◌-◌, ◌*◌, ◌/◌, ◌%◌, ◌^◌, ◌==◌, Bool, true, false, not, if◌then◌else◌, nat_lt, ℤ, bit_and, bit_or, bit_xor, int_lt}
 use Rattle.std.specs.Int.{cast_signed, cast_unsigned, int_shr, w32, w64}
 use Rattle.rv_core.specs.Memory.{IsSize}
+use Rattle.rv_core.specs.Listing.{signed_by}
 use Rattle.rv_core.specs.declared.instr.Op.{Op}
 use Rattle.rv_core.specs.declared.instr.Op.TheVariants as op
 use Rattle.rv_core.specs.declared.rows.Effect.{Effect}
@@ -20,9 +21,9 @@ minus a b = word (a + (2 ^ 64 - b))
 abbrev pub signed : ℕ → ℤ
 signed a = cast_signed w64 a
 
--- The low bits of a number as a signed number, on 64 bits: the highest of them is repeated above.
+-- The low bits of a number as a signed number, on 64 bits.
 abbrev pub sign_extended : ℕ → ℕ → ℕ
-sign_extended count n = if nat_lt (n % 2 ^ count) (2 ^ (count - 1)) then n % 2 ^ count else n % 2 ^ count + (2 ^ 64 - 2 ^ count)
+sign_extended count n = cast_unsigned w64 (signed_by (2 ^ (count - 1)) (n % 2 ^ count))
 
 -- The result of an instruction on words of 32 bits.
 abbrev pub extended : ℕ → ℕ
@@ -39,7 +40,8 @@ shift_right a k = cast_unsigned w64 (int_shr (signed a) k)
 abbrev pub shift_right_32 : ℕ → ℕ → ℕ
 shift_right_32 a k = cast_unsigned w64 (int_shr (cast_signed w32 (a % 2 ^ 32)) k)
 
--- One line an instruction. pc is its address, i its immediate modulo 2^64, a and b are what rs1 and rs2 hold.
+-- One line an instruction. pc is its address, i its immediate modulo 2^64, a and b are what rs1 and
+-- rs2 hold.
 abbrev pub row : Op → ℕ → ℕ → ℕ → ℕ → Effect
 row op.Lui pc i a b = Sets i
 row op.Auipc pc i a b = Sets (word (pc + i))

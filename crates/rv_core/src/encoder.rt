@@ -1,9 +1,10 @@
 ghost use Rattle.std.specs.Prelude.{◌≡◌, ◌<◌, ◌≤◌, ◌^◌, ◌+◌, IsTrue, IfSome};
-ghost use Rattle.rv_core.specs.Listing.{U, J, I, S, B, R, Shift, ShiftW, Whole, NamesRegisters, form, decoded};
+ghost use Rattle.rv_core.specs.Listing.{NamesRegisters, form, decoded};
 ghost use Rattle.rv_core.specs.Encoding.{is_signed_by, is_below, unsigned_by, has_registers, registers, encoded_as, encoded};
 
 use crate::fields::bits;
-use crate::instr::{Instr, Op};
+use crate::instr::Instr;
+use crate::listing::Layout;
 
 /// Whether `imm` is from minus `half` up to `half`, without `half`.
 fn is_signed_by(half: u32, imm: i64) -> bool
@@ -52,7 +53,7 @@ fn registers(i: &Instr) -> u32
 /// The word under the layout U.
 fn encode_u(i: &Instr, opcode: u32) -> Option<u32>
     requires { opcode < 2 ^ 7 }
-    ensures { result ≡ encoded_as (U opcode) i.now }
+    ensures { result ≡ encoded_as (Layout.U opcode) i.now }
 {
     if !has_registers(i, true, false, false) || !is_signed_by(1 << 31, i.imm) {
         return None;
@@ -67,7 +68,7 @@ fn encode_u(i: &Instr, opcode: u32) -> Option<u32>
 /// The word under the layout J.
 fn encode_j(i: &Instr, opcode: u32) -> Option<u32>
     requires { opcode < 2 ^ 7 }
-    ensures { result ≡ encoded_as (J opcode) i.now }
+    ensures { result ≡ encoded_as (Layout.J opcode) i.now }
 {
     if !has_registers(i, true, false, false) || !is_signed_by(1 << 20, i.imm) {
         return None;
@@ -87,7 +88,7 @@ fn encode_j(i: &Instr, opcode: u32) -> Option<u32>
 fn encode_i(i: &Instr, opcode: u32, f3: u32) -> Option<u32>
     requires opcode { opcode < 2 ^ 7 }
     requires f3 { f3 < 2 ^ 3 }
-    ensures { result ≡ encoded_as (I opcode f3) i.now }
+    ensures { result ≡ encoded_as (Layout.I opcode f3) i.now }
 {
     if !has_registers(i, true, true, false) || !is_signed_by(1 << 11, i.imm) {
         return None;
@@ -100,7 +101,7 @@ fn encode_i(i: &Instr, opcode: u32, f3: u32) -> Option<u32>
 fn encode_s(i: &Instr, opcode: u32, f3: u32) -> Option<u32>
     requires opcode { opcode < 2 ^ 7 }
     requires f3 { f3 < 2 ^ 3 }
-    ensures { result ≡ encoded_as (S opcode f3) i.now }
+    ensures { result ≡ encoded_as (Layout.S opcode f3) i.now }
 {
     if !has_registers(i, false, true, true) || !is_signed_by(1 << 11, i.imm) {
         return None;
@@ -114,7 +115,7 @@ fn encode_s(i: &Instr, opcode: u32, f3: u32) -> Option<u32>
 fn encode_b(i: &Instr, opcode: u32, f3: u32) -> Option<u32>
     requires opcode { opcode < 2 ^ 7 }
     requires f3 { f3 < 2 ^ 3 }
-    ensures { result ≡ encoded_as (B opcode f3) i.now }
+    ensures { result ≡ encoded_as (Layout.B opcode f3) i.now }
 {
     if !has_registers(i, false, true, true) || !is_signed_by(1 << 12, i.imm) {
         return None;
@@ -135,7 +136,7 @@ fn encode_r(i: &Instr, opcode: u32, f3: u32, f7: u32) -> Option<u32>
     requires opcode { opcode < 2 ^ 7 }
     requires f3 { f3 < 2 ^ 3 }
     requires f7 { f7 < 2 ^ 7 }
-    ensures { result ≡ encoded_as (R opcode f3 f7) i.now }
+    ensures { result ≡ encoded_as (Layout.R opcode f3 f7) i.now }
 {
     if !has_registers(i, true, true, true) || i.imm != 0 {
         return None;
@@ -148,7 +149,7 @@ fn encode_shift(i: &Instr, opcode: u32, f3: u32, f6: u32) -> Option<u32>
     requires opcode { opcode < 2 ^ 7 }
     requires f3 { f3 < 2 ^ 3 }
     requires f6 { f6 < 2 ^ 6 }
-    ensures { result ≡ encoded_as (Shift opcode f3 f6) i.now }
+    ensures { result ≡ encoded_as (Layout.Shift opcode f3 f6) i.now }
 {
     if !has_registers(i, true, true, false) || !is_below(64, i.imm) {
         return None;
@@ -161,7 +162,7 @@ fn encode_shift_32(i: &Instr, opcode: u32, f3: u32, f7: u32) -> Option<u32>
     requires opcode { opcode < 2 ^ 7 }
     requires f3 { f3 < 2 ^ 3 }
     requires f7 { f7 < 2 ^ 7 }
-    ensures { result ≡ encoded_as (ShiftW opcode f3 f7) i.now }
+    ensures { result ≡ encoded_as (Layout.ShiftW opcode f3 f7) i.now }
 {
     if !has_registers(i, true, true, false) || !is_below(32, i.imm) {
         return None;
@@ -171,7 +172,7 @@ fn encode_shift_32(i: &Instr, opcode: u32, f3: u32, f7: u32) -> Option<u32>
 
 /// The word of an instruction without fields.
 fn encode_fixed(i: &Instr, word: u32) -> Option<u32>
-    ensures { result ≡ encoded_as (Whole word) i.now }
+    ensures { result ≡ encoded_as (Layout.Whole word) i.now }
 {
     if !has_registers(i, false, false, false) || i.imm != 0 {
         return None;
@@ -183,60 +184,17 @@ fn encode_fixed(i: &Instr, word: u32) -> Option<u32>
 fn encode_by_layout(instr: &Instr) -> Option<u32>
     ensures { result ≡ encoded_as (form instr.now.op) instr.now }
 {
-    match instr.op {
-        Op::Lui => encode_u(instr, 0x37),
-        Op::Auipc => encode_u(instr, 0x17),
-        Op::Jal => encode_j(instr, 0x6f),
-        Op::Jalr => encode_i(instr, 0x67, 0),
-        Op::Beq => encode_b(instr, 0x63, 0),
-        Op::Bne => encode_b(instr, 0x63, 1),
-        Op::Blt => encode_b(instr, 0x63, 4),
-        Op::Bge => encode_b(instr, 0x63, 5),
-        Op::Bltu => encode_b(instr, 0x63, 6),
-        Op::Bgeu => encode_b(instr, 0x63, 7),
-        Op::Lb => encode_i(instr, 0x03, 0),
-        Op::Lh => encode_i(instr, 0x03, 1),
-        Op::Lw => encode_i(instr, 0x03, 2),
-        Op::Ld => encode_i(instr, 0x03, 3),
-        Op::Lbu => encode_i(instr, 0x03, 4),
-        Op::Lhu => encode_i(instr, 0x03, 5),
-        Op::Lwu => encode_i(instr, 0x03, 6),
-        Op::Sb => encode_s(instr, 0x23, 0),
-        Op::Sh => encode_s(instr, 0x23, 1),
-        Op::Sw => encode_s(instr, 0x23, 2),
-        Op::Sd => encode_s(instr, 0x23, 3),
-        Op::Addi => encode_i(instr, 0x13, 0),
-        Op::Slti => encode_i(instr, 0x13, 2),
-        Op::Sltiu => encode_i(instr, 0x13, 3),
-        Op::Xori => encode_i(instr, 0x13, 4),
-        Op::Ori => encode_i(instr, 0x13, 6),
-        Op::Andi => encode_i(instr, 0x13, 7),
-        Op::Slli => encode_shift(instr, 0x13, 1, 0x00),
-        Op::Srli => encode_shift(instr, 0x13, 5, 0x00),
-        Op::Srai => encode_shift(instr, 0x13, 5, 0x10),
-        Op::Add => encode_r(instr, 0x33, 0, 0x00),
-        Op::Sub => encode_r(instr, 0x33, 0, 0x20),
-        Op::Sll => encode_r(instr, 0x33, 1, 0x00),
-        Op::Slt => encode_r(instr, 0x33, 2, 0x00),
-        Op::Sltu => encode_r(instr, 0x33, 3, 0x00),
-        Op::Xor => encode_r(instr, 0x33, 4, 0x00),
-        Op::Srl => encode_r(instr, 0x33, 5, 0x00),
-        Op::Sra => encode_r(instr, 0x33, 5, 0x20),
-        Op::Or => encode_r(instr, 0x33, 6, 0x00),
-        Op::And => encode_r(instr, 0x33, 7, 0x00),
-        Op::Addiw => encode_i(instr, 0x1b, 0),
-        Op::Slliw => encode_shift_32(instr, 0x1b, 1, 0x00),
-        Op::Srliw => encode_shift_32(instr, 0x1b, 5, 0x00),
-        Op::Sraiw => encode_shift_32(instr, 0x1b, 5, 0x20),
-        Op::Addw => encode_r(instr, 0x3b, 0, 0x00),
-        Op::Subw => encode_r(instr, 0x3b, 0, 0x20),
-        Op::Sllw => encode_r(instr, 0x3b, 1, 0x00),
-        Op::Srlw => encode_r(instr, 0x3b, 5, 0x00),
-        Op::Sraw => encode_r(instr, 0x3b, 5, 0x20),
-        Op::Fence => encode_fixed(instr, 0x0000_000f),
-        Op::FenceI => encode_fixed(instr, 0x0000_100f),
-        Op::Ecall => encode_fixed(instr, 0x0000_0073),
-        Op::Ebreak => encode_fixed(instr, 0x0010_0073),
+    match instr.op.layout() {
+        Layout::U(opcode) => encode_u(instr, opcode),
+        Layout::J(opcode) => encode_j(instr, opcode),
+        Layout::I(opcode, f3) => encode_i(instr, opcode, f3),
+        Layout::S(opcode, f3) => encode_s(instr, opcode, f3),
+        Layout::B(opcode, f3) => encode_b(instr, opcode, f3),
+        Layout::R(opcode, f3, f7) => encode_r(instr, opcode, f3, f7),
+        Layout::Shift(opcode, f3, f6) => encode_shift(instr, opcode, f3, f6),
+        Layout::ShiftW(opcode, f3, f7) => encode_shift_32(instr, opcode, f3, f7),
+        Layout::Ignored(opcode, f3) => encode_fixed(instr, opcode + f3 * (1 << 12)),
+        Layout::Whole(word) => encode_fixed(instr, word),
     }
 }
 

@@ -2,6 +2,7 @@ ghost use Rattle.std.specs.Prelude.{◌≡◌, ◌<◌, ◌≤◌, ◌^◌, ◌+
 ghost use Rattle.rv_core.specs.Listing.{bits, signed_by, branch_distance, jump_distance, fields_of};
 
 use crate::instr::{Instr, Op};
+use crate::listing::Layout;
 
 /// Bits `high` to `low` of `word`, as a number.
 #[inline]
@@ -59,114 +60,24 @@ pub(crate) fn fields_of(word: u32, op: Op) -> Instr
     let rd = bits(word, 11, 7) as u8;
     let rs1 = bits(word, 19, 15) as u8;
     let rs2 = bits(word, 24, 20) as u8;
-    match op {
-        Op::Lui | Op::Auipc => {
+    match op.layout() {
+        Layout::U(_) => {
             let imm = signed_by(1 << 31, bits(word, 31, 12) * (1 << 12));
-            Instr {
-                op,
-                rd,
-                rs1: 0,
-                rs2: 0,
-                imm,
-            }
+            Instr::new(op, rd, 0, 0, imm)
         }
-        Op::Jal => Instr {
-            op,
-            rd,
-            rs1: 0,
-            rs2: 0,
-            imm: jump_distance(word),
-        },
-        Op::Beq | Op::Bne | Op::Blt | Op::Bge | Op::Bltu | Op::Bgeu => {
-            Instr {
-                op,
-                rd: 0,
-                rs1,
-                rs2,
-                imm: branch_distance(word),
-            }
-        }
-        Op::Sb | Op::Sh | Op::Sw | Op::Sd => {
-            let imm = signed_by(1 << 11, bits(word, 31, 25) * (1 << 5) + bits(word, 11, 7));
-            Instr {
-                op,
-                rd: 0,
-                rs1,
-                rs2,
-                imm,
-            }
-        }
-        Op::Jalr
-        | Op::Lb
-        | Op::Lh
-        | Op::Lw
-        | Op::Ld
-        | Op::Lbu
-        | Op::Lhu
-        | Op::Lwu
-        | Op::Addi
-        | Op::Slti
-        | Op::Sltiu
-        | Op::Xori
-        | Op::Ori
-        | Op::Andi
-        | Op::Addiw => {
+        Layout::J(_) => Instr::new(op, rd, 0, 0, jump_distance(word)),
+        Layout::I(..) => {
             let imm = signed_by(1 << 11, bits(word, 31, 20));
-            Instr {
-                op,
-                rd,
-                rs1,
-                rs2: 0,
-                imm,
-            }
+            Instr::new(op, rd, rs1, 0, imm)
         }
-        Op::Slli | Op::Srli | Op::Srai => {
-            Instr {
-                op,
-                rd,
-                rs1,
-                rs2: 0,
-                imm: i64::from(bits(word, 25, 20)),
-            }
+        Layout::S(..) => {
+            let imm = signed_by(1 << 11, bits(word, 31, 25) * (1 << 5) + bits(word, 11, 7));
+            Instr::new(op, 0, rs1, rs2, imm)
         }
-        Op::Slliw | Op::Srliw | Op::Sraiw => {
-            Instr {
-                op,
-                rd,
-                rs1,
-                rs2: 0,
-                imm: i64::from(bits(word, 24, 20)),
-            }
-        }
-        Op::Add
-        | Op::Sub
-        | Op::Sll
-        | Op::Slt
-        | Op::Sltu
-        | Op::Xor
-        | Op::Srl
-        | Op::Sra
-        | Op::Or
-        | Op::And
-        | Op::Addw
-        | Op::Subw
-        | Op::Sllw
-        | Op::Srlw
-        | Op::Sraw => Instr {
-            op,
-            rd,
-            rs1,
-            rs2,
-            imm: 0,
-        },
-        Op::Fence | Op::FenceI | Op::Ecall | Op::Ebreak => {
-            Instr {
-                op,
-                rd: 0,
-                rs1: 0,
-                rs2: 0,
-                imm: 0,
-            }
-        }
+        Layout::B(..) => Instr::new(op, 0, rs1, rs2, branch_distance(word)),
+        Layout::R(..) => Instr::new(op, rd, rs1, rs2, 0),
+        Layout::Shift(..) => Instr::new(op, rd, rs1, 0, i64::from(bits(word, 25, 20))),
+        Layout::ShiftW(..) => Instr::new(op, rd, rs1, 0, i64::from(bits(word, 24, 20))),
+        Layout::Ignored(..) | Layout::Whole(_) => Instr::new(op, 0, 0, 0, 0),
     }
 }

@@ -1,3 +1,5 @@
+ghost use Rattle.std.specs.Prelude.{◌≡◌};
+
 /// The instructions of RV64I and FENCE.I, by their names in the RISC-V manual.
 #[derive(Clone, Copy, Debug, PartialEq, Eq)]
 pub enum Op {
@@ -56,6 +58,63 @@ pub enum Op {
     Ebreak,
 }
 
+/// All instructions.
+pub const OPS: [Op; 53] = [
+    Op::Lui,
+    Op::Auipc,
+    Op::Jal,
+    Op::Jalr,
+    Op::Beq,
+    Op::Bne,
+    Op::Blt,
+    Op::Bge,
+    Op::Bltu,
+    Op::Bgeu,
+    Op::Lb,
+    Op::Lh,
+    Op::Lw,
+    Op::Ld,
+    Op::Lbu,
+    Op::Lhu,
+    Op::Lwu,
+    Op::Sb,
+    Op::Sh,
+    Op::Sw,
+    Op::Sd,
+    Op::Addi,
+    Op::Slti,
+    Op::Sltiu,
+    Op::Xori,
+    Op::Ori,
+    Op::Andi,
+    Op::Slli,
+    Op::Srli,
+    Op::Srai,
+    Op::Add,
+    Op::Sub,
+    Op::Sll,
+    Op::Slt,
+    Op::Sltu,
+    Op::Xor,
+    Op::Srl,
+    Op::Sra,
+    Op::Or,
+    Op::And,
+    Op::Addiw,
+    Op::Slliw,
+    Op::Srliw,
+    Op::Sraiw,
+    Op::Addw,
+    Op::Subw,
+    Op::Sllw,
+    Op::Srlw,
+    Op::Sraw,
+    Op::Fence,
+    Op::FenceI,
+    Op::Ecall,
+    Op::Ebreak,
+];
+
 /// An instruction with its fields. A field that the instruction doesn't have is 0. `imm` is the immediate
 /// with its sign, in bytes for an address or a distance, and for a shift the amount.
 #[derive(Clone, Copy, Debug, PartialEq, Eq)]
@@ -65,4 +124,20 @@ pub struct Instr {
     pub rs1: u8,
     pub rs2: u8,
     pub imm: i64,
+}
+
+impl Instr {
+    /// The instruction with these fields.
+    #[inline]
+    pub const fn new(op: Op, rd: u8, rs1: u8, rs2: u8, imm: i64) -> Instr
+        ensures { result ≡ record { op = op; rd = rd; rs1 = rs1; rs2 = rs2; imm = imm } }
+    {
+        Instr {
+            op,
+            rd,
+            rs1,
+            rs2,
+            imm,
+        }
+    }
 }

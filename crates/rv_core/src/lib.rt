@@ -8,6 +8,7 @@ mod encoder;
 mod fields;
 mod hart;
 mod instr;
+mod listing;
 mod opcodes;
 mod rows;
 #[cfg(test)]
@@ -18,4 +19,5 @@ pub use context::{Context, Ended, Trap};
 pub use decoder::decode;
 pub use encoder::encode;
 pub use hart::{slice, step};
-pub use instr::{Instr, Op};
+pub use instr::{Instr, OPS, Op};
+pub use listing::Layout;

@@ -1,6 +1,5 @@
-ghost use Rattle.std.specs.Prelude.{◌≡◌, IfSome, true};
-ghost use Rattle.rv_core.specs.Listing.{B, I, S, Ignored, Whole, form, has_form};
-ghost use Rattle.rv_core.specs.Opcodes.{branch_of, load_of, store_of, immediate_of, register_of, immediate_32_of, register_32_of, fence_of, system_of, op_of, IsFormOf};
+ghost use Rattle.std.specs.Prelude.{◌≡◌, ℕ};
+ghost use Rattle.rv_core.specs.Listing.{op_at, op_of};
 
 use crate::fields::bits;
 use crate::instr::Op;
@@ -8,8 +7,7 @@ use crate::instr::Op;
 /// The branch with this funct3.
 #[inline]
 fn branch_of(f3: u32) -> Option<Op>
-    ensures name { result ≡ branch_of f3 }
-    ensures form { IfSome result (λ o. form o ≡ B 0x63 f3) }
+    ensures { (w f6 f7 : ℕ) → result ≡ op_at w 0x63 f3 f6 f7 }
 {
     match f3 {
         0 => Some(Op::Beq),
@@ -25,8 +23,7 @@ fn branch_of(f3: u32) -> Option<Op>
 /// The load with this funct3.
 #[inline]
 fn load_of(f3: u32) -> Option<Op>
-    ensures name { result ≡ load_of f3 }
-    ensures form { IfSome result (λ o. form o ≡ I 0x03 f3) }
+    ensures { (w f6 f7 : ℕ) → result ≡ op_at w 0x03 f3 f6 f7 }
 {
     match f3 {
         0 => Some(Op::Lb),
@@ -43,8 +40,7 @@ fn load_of(f3: u32) -> Option<Op>
 /// The store with this funct3.
 #[inline]
 fn store_of(f3: u32) -> Option<Op>
-    ensures name { result ≡ store_of f3 }
-    ensures form { IfSome result (λ o. form o ≡ S 0x23 f3) }
+    ensures { (w f6 f7 : ℕ) → result ≡ op_at w 0x23 f3 f6 f7 }
 {
     match f3 {
         0 => Some(Op::Sb),
@@ -57,18 +53,17 @@ fn store_of(f3: u32) -> Option<Op>
 
 /// The instruction on a register and an immediate.
 #[inline]
-fn immediate_of(f3: u32, f7: u32) -> Option<Op>
-    ensures name { result ≡ immediate_of f3 f7 }
-    ensures form { IfSome result (λ o. IsFormOf 0x13 f3 f7 (form o)) }
+fn immediate_of(f3: u32, f6: u32) -> Option<Op>
+    ensures { (w f7 : ℕ) → result ≡ op_at w 0x13 f3 f6 f7 }
 {
     match f3 {
         0 => Some(Op::Addi),
-        1 if f7 / 2 == 0x00 => Some(Op::Slli),
+        1 if f6 == 0x00 => Some(Op::Slli),
         2 => Some(Op::Slti),
         3 => Some(Op::Sltiu),
         4 => Some(Op::Xori),
-        5 if f7 / 2 == 0x00 => Some(Op::Srli),
-        5 if f7 / 2 == 0x10 => Some(Op::Srai),
+        5 if f6 == 0x00 => Some(Op::Srli),
+        5 if f6 == 0x10 => Some(Op::Srai),
         6 => Some(Op::Ori),
         7 => Some(Op::Andi),
         _ => None,
@@ -78,8 +73,7 @@ fn immediate_of(f3: u32, f7: u32) -> Option<Op>
 /// The instruction on two registers.
 #[inline]
 fn register_of(f3: u32, f7: u32) -> Option<Op>
-    ensures name { result ≡ register_of f3 f7 }
-    ensures form { IfSome result (λ o. IsFormOf 0x33 f3 f7 (form o)) }
+    ensures { (w f6 : ℕ) → result ≡ op_at w 0x33 f3 f6 f7 }
 {
     match (f3, f7) {
         (0, 0x00) => Some(Op::Add),
@@ -99,8 +93,7 @@ fn register_of(f3: u32, f7: u32) -> Option<Op>
 /// The instruction on 32 bits of a register and an immediate.
 #[inline]
 fn immediate_32_of(f3: u32, f7: u32) -> Option<Op>
-    ensures name { result ≡ immediate_32_of f3 f7 }
-    ensures form { IfSome result (λ o. IsFormOf 0x1b f3 f7 (form o)) }
+    ensures { (w f6 : ℕ) → result ≡ op_at w 0x1b f3 f6 f7 }
 {
     match f3 {
         0 => Some(Op::Addiw),
@@ -114,8 +107,7 @@ fn immediate_32_of(f3: u32, f7: u32) -> Option<Op>
 /// The instruction on 32 bits of two registers.
 #[inline]
 fn register_32_of(f3: u32, f7: u32) -> Option<Op>
-    ensures name { result ≡ register_32_of f3 f7 }
-    ensures form { IfSome result (λ o. IsFormOf 0x3b f3 f7 (form o)) }
+    ensures { (w f6 : ℕ) → result ≡ op_at w 0x3b f3 f6 f7 }
 {
     match (f3, f7) {
         (0, 0x00) => Some(Op::Addw),
@@ -130,8 +122,7 @@ fn register_32_of(f3: u32, f7: u32) -> Option<Op>
 /// The fence with this funct3.
 #[inline]
 fn fence_of(f3: u32) -> Option<Op>
-    ensures name { result ≡ fence_of f3 }
-    ensures form { IfSome result (λ o. form o ≡ Ignored 0x0f f3) }
+    ensures { (w f6 f7 : ℕ) → result ≡ op_at w 0x0f f3 f6 f7 }
 {
     match f3 {
         0 => Some(Op::Fence),
@@ -143,8 +134,7 @@ fn fence_of(f3: u32) -> Option<Op>
 /// The instruction that is this one word.
 #[inline]
 fn system_of(word: u32) -> Option<Op>
-    ensures name { result ≡ system_of word }
-    ensures form { IfSome result (λ o. form o ≡ Whole word) }
+    ensures { (f3 f6 f7 : ℕ) → result ≡ op_at word 0x73 f3 f6 f7 }
 {
     match word {
         0x0000_0073 => Some(Op::Ecall),
@@ -156,8 +146,7 @@ fn system_of(word: u32) -> Option<Op>
 /// The instruction whose layout the word has.
 #[inline]
 pub(crate) fn op_of(word: u32) -> Option<Op>
-    ensures name { result ≡ op_of word }
-    ensures form { IfSome result (λ o. has_form word (form o) ≡ true) }
+    ensures { result ≡ op_of word }
 {
     let f3 = bits(word, 14, 12);
     let f7 = bits(word, 31, 25);
@@ -169,7 +158,7 @@ pub(crate) fn op_of(word: u32) -> Option<Op>
         0x63 => branch_of(f3),
         0x03 => load_of(f3),
         0x23 => store_of(f3),
-        0x13 => immediate_of(f3, f7),
+        0x13 => immediate_of(f3, bits(word, 31, 26)),
         0x33 => register_of(f3, f7),
         0x1b => immediate_32_of(f3, f7),
         0x3b => register_32_of(f3, f7),

@@ -79,6 +79,8 @@ impl Cells for Rom {
 
 const START: u64 = 0x1_0000;
 
+const NEXT: u64 = START + 4;
+
 const DATA: [u8; 8] = [0xf0, 0xde, 0xbc, 0x9a, 0x78, 0x56, 0x34, 0x12];
 
 const LEAST: u64 = 1 << 63;
@@ -95,7 +97,7 @@ fn registers(pc: u64, a: u64, b: u64) -> Context {
     cx
 }
 
-/// One instruction at `START`, with `a` in x1 and `b` in x2.
+/// The instruction at `START`, with `a` in x1 and `b` in x2.
 fn run(instr: Instr, a: u64, b: u64) -> Option<(Context, Option<Trap>)> {
     let word = encode(&instr)?;
     let mut cx = registers(START, a, b);
@@ -103,281 +105,229 @@ fn run(instr: Instr, a: u64, b: u64) -> Option<(Context, Option<Trap>)> {
     Some((cx, trap))
 }
 
-/// What x3 holds after an instruction that goes on to the next.
-fn value_of(instr: Instr, a: u64, b: u64) -> Option<u64> {
-    let (cx, trap) = run(instr, a, b)?;
-    if trap.is_none() && cx.pc == START + 4 {
-        Some(cx.x[2])
-    } else {
-        None
-    }
-}
-
-fn with(op: Op, rd: u8, rs1: u8, rs2: u8, imm: i64) -> Instr {
-    Instr {
-        op,
-        rd,
-        rs1,
-        rs2,
-        imm,
-    }
-}
-
+/// Words and the instructions that they spell; words and instructions that spell nothing.
 #[test]
 fn words(rt: HostRuntime) {
     let table = [
-        (0x0010_0513, Op::Addi, 10, 0, 0, 1),
-        (0x0000_0597, Op::Auipc, 11, 0, 0, 0),
-        (0x0205_8593, Op::Addi, 11, 11, 0, 32),
-        (0x8000_0537, Op::Lui, 10, 0, 0, -0x8000_0000),
-        (0x7fff_f537, Op::Lui, 10, 0, 0, 0x7fff_f000),
-        (0xffdf_f0ef, Op::Jal, 1, 0, 0, -4),
-        (0x0000_8067, Op::Jalr, 0, 1, 0, 0),
-        (0xfee7_9ee3, Op::Bne, 0, 15, 14, -4),
-        (0x8000_0063, Op::Beq, 0, 0, 0, -4096),
-        (0x7e00_0fe3, Op::Beq, 0, 0, 0, 4094),
-        (0x0081_3083, Op::Ld, 1, 2, 0, 8),
-        (0x00a1_3423, Op::Sd, 0, 2, 10, 8),
-        (0x8000_0023, Op::Sb, 0, 0, 0, -2048),
-        (0x43f5_5513, Op::Srai, 10, 10, 0, 63),
-        (0x41f5_551b, Op::Sraiw, 10, 10, 0, 31),
-        (0x40c5_8533, Op::Sub, 10, 11, 12, 0),
-        (0x40c5_d53b, Op::Sraw, 10, 11, 12, 0),
-        (0x0000_000f, Op::Fence, 0, 0, 0, 0),
-        (0x0000_100f, Op::FenceI, 0, 0, 0, 0),
-        (0x0000_0073, Op::Ecall, 0, 0, 0, 0),
-        (0x0010_0073, Op::Ebreak, 0, 0, 0, 0),
+        (Some(0x0010_0513), Some((Op::Addi, 10, 0, 0, 1))),
+        (Some(0x0000_0597), Some((Op::Auipc, 11, 0, 0, 0))),
+        (Some(0x0205_8593), Some((Op::Addi, 11, 11, 0, 32))),
+        (Some(0x8000_0537), Some((Op::Lui, 10, 0, 0, -0x8000_0000))),
+        (Some(0x7fff_f537), Some((Op::Lui, 10, 0, 0, 0x7fff_f000))),
+        (Some(0xffdf_f0ef), Some((Op::Jal, 1, 0, 0, -4))),
+        (Some(0x0000_8067), Some((Op::Jalr, 0, 1, 0, 0))),
+        (Some(0xfee7_9ee3), Some((Op::Bne, 0, 15, 14, -4))),
+        (Some(0x8000_0063), Some((Op::Beq, 0, 0, 0, -4096))),
+        (Some(0x7e00_0fe3), Some((Op::Beq, 0, 0, 0, 4094))),
+        (Some(0x0081_3083), Some((Op::Ld, 1, 2, 0, 8))),
+        (Some(0x00a1_3423), Some((Op::Sd, 0, 2, 10, 8))),
+        (Some(0x8000_0023), Some((Op::Sb, 0, 0, 0, -2048))),
+        (Some(0x43f5_5513), Some((Op::Srai, 10, 10, 0, 63))),
+        (Some(0x41f5_551b), Some((Op::Sraiw, 10, 10, 0, 31))),
+        (Some(0x40c5_8533), Some((Op::Sub, 10, 11, 12, 0))),
+        (Some(0x40c5_d53b), Some((Op::Sraw, 10, 11, 12, 0))),
+        (Some(0x0000_000f), Some((Op::Fence, 0, 0, 0, 0))),
+        (Some(0x0000_100f), Some((Op::FenceI, 0, 0, 0, 0))),
+        (Some(0x0000_0073), Some((Op::Ecall, 0, 0, 0, 0))),
+        (Some(0x0010_0073), Some((Op::Ebreak, 0, 0, 0, 0))),
+        (Some(0x0000_0000), None),
+        (Some(0x0205_151b), None), // slliw by 32
+        (Some(0x4000_1013), None), // slli with srai's bits
+        (Some(0x02c5_8533), None), // mul
+        (Some(0x0000_1067), None),
+        (Some(0x0000_2063), None),
+        (Some(0x0000_7003), None),
+        (Some(0x0000_4023), None),
+        (Some(0x0000_200f), None),
+        (Some(0x0020_0073), None),
+        (Some(0xffff_ffff), None),
+        (None, Some((Op::Addi, 32, 0, 0, 0))),
+        (None, Some((Op::Addi, 1, 0, 1, 0))),
+        (None, Some((Op::Addi, 1, 0, 0, 2048))),
+        (None, Some((Op::Addi, 1, 0, 0, -2049))),
+        (None, Some((Op::Beq, 0, 0, 0, 3))),
+        (None, Some((Op::Beq, 0, 0, 0, 4096))),
+        (None, Some((Op::Jal, 0, 0, 0, 1 << 20))),
+        (None, Some((Op::Lui, 1, 0, 0, 1))),
+        (None, Some((Op::Lui, 1, 0, 0, 1 << 31))),
+        (None, Some((Op::Slli, 1, 1, 0, 64))),
+        (None, Some((Op::Slli, 1, 1, 0, -1))),
+        (None, Some((Op::Slliw, 1, 1, 0, 32))),
+        (None, Some((Op::Add, 1, 1, 1, 1))),
+        (None, Some((Op::Ecall, 1, 0, 0, 0))),
     ];
-    for (word, op, rd, rs1, rs2, imm) in table {
-        let instr = with(op, rd, rs1, rs2, imm);
-        assert_eq!(rt; decode(word), Some(instr));
-        assert_eq!(rt; encode(&instr), Some(word));
-    }
-    assert_eq!(rt; decode(0x0ff0_000f), Some(with(Op::Fence, 0, 0, 0, 0)));
-}
-
-#[test]
-fn refused_words(rt: HostRuntime) {
-    let illegal = [
-        0x0000_0000,
-        0x0205_151b, // slliw by 32
-        0x4000_1013, // slli with srai's bits
-        0x02c5_8533, // mul
-        0x0000_1067,
-        0x0000_2063,
-        0x0000_7003,
-        0x0000_4023,
-        0x0000_200f,
-        0x0020_0073,
-        0xffff_ffff,
-    ];
-    for word in illegal {
-        assert_eq!(rt; decode(word), None, "{word}");
-    }
-}
-
-#[test]
-fn refused_fields(rt: HostRuntime) {
-    let table = [
-        (Op::Addi, 32, 0, 0, 0),
-        (Op::Addi, 1, 0, 1, 0),
-        (Op::Addi, 1, 0, 0, 2048),
-        (Op::Addi, 1, 0, 0, -2049),
-        (Op::Beq, 0, 0, 0, 3),
-        (Op::Beq, 0, 0, 0, 4096),
-        (Op::Jal, 0, 0, 0, 1 << 20),
-        (Op::Lui, 1, 0, 0, 1),
-        (Op::Lui, 1, 0, 0, 1 << 31),
-        (Op::Slli, 1, 1, 0, 64),
-        (Op::Slli, 1, 1, 0, -1),
-        (Op::Slliw, 1, 1, 0, 32),
-        (Op::Add, 1, 1, 1, 1),
-        (Op::Ecall, 1, 0, 0, 0),
-    ];
-    for (op, rd, rs1, rs2, imm) in table {
-        assert_eq!(rt; encode(&with(op, rd, rs1, rs2, imm)), None, "{op:?} {imm}");
-    }
-}
-
-#[test]
-fn immediates(rt: HostRuntime) {
-    let table = [
-        (Op::Addi, 1, u64::MAX, 0),
-        (Op::Addi, -2048, 0, u64::MAX - 2047),
-        (Op::Slti, 0, LEAST, 1),
-        (Op::Slti, -1, 0, 0),
-        (Op::Sltiu, -1, 0, 1),
-        (Op::Sltiu, 5, 5, 0),
-        (Op::Xori, -1, 1, u64::MAX - 1),
-        (Op::Ori, -2048, 1, u64::MAX - 2046),
-        (Op::Andi, 255, u64::MAX, 255),
-        (Op::Slli, 0, 3, 3),
-        (Op::Slli, 31, 3, 3 << 31),
-        (Op::Slli, 32, 3, 3 << 32),
-        (Op::Slli, 63, 3, LEAST),
-        (Op::Srli, 31, LEAST, 1 << 32),
-        (Op::Srli, 63, LEAST, 1),
-        (Op::Srai, 0, LEAST, LEAST),
-        (Op::Srai, 32, LEAST, LEAST_32),
-        (Op::Srai, 63, LEAST, u64::MAX),
-        (Op::Srai, 62, GREATEST, 1),
-        (Op::Addiw, 1, 0x7fff_ffff, LEAST_32),
-        (Op::Addiw, 0, 0xffff_ffff_0000_0000, 0),
-        (Op::Slliw, 31, 3, LEAST_32),
-        (Op::Slliw, 0, 0x1_0000_0003, 3),
-        (Op::Srliw, 0, LEAST_32, LEAST_32),
-        (Op::Srliw, 31, LEAST_32, 1),
-        (Op::Sraiw, 31, 0x8000_0000, u64::MAX),
-        (Op::Sraiw, 30, 0x7fff_ffff, 1),
-    ];
-    for (op, imm, a, want) in table {
-        assert_eq!(rt;
-            value_of(with(op, 3, 1, 0, imm), a, 0),
-            Some(want),
-            "{op:?} {imm}"
-        );
-    }
-    assert_eq!(rt;
-        value_of(with(Op::Lui, 3, 0, 0, -4096), 0, 0),
-        Some(u64::MAX - 4095)
-    );
-    assert_eq!(rt;
-        value_of(with(Op::Auipc, 3, 0, 0, -0x2_0000), 0, 0),
-        Some(u64::MAX - 0xffff)
-    );
-}
-
-#[test]
-fn pairs(rt: HostRuntime) {
-    let table = [
-        (Op::Add, u64::MAX, 1, 0),
-        (Op::Sub, 0, 1, u64::MAX),
-        (Op::Sll, 3, 63, LEAST),
-        (Op::Sll, 3, 64, 3),
-        (Op::Slt, LEAST, GREATEST, 1),
-        (Op::Slt, GREATEST, LEAST, 0),
-        (Op::Sltu, LEAST, GREATEST, 0),
-        (Op::Sltu, 5, 5, 0),
-        (Op::Xor, 6, 3, 5),
-        (Op::Srl, LEAST, 127, 1),
-        (Op::Sra, LEAST, 63, u64::MAX),
-        (Op::Or, 6, 3, 7),
-        (Op::And, 6, 3, 2),
-        (Op::Addw, 0x7fff_ffff, 1, LEAST_32),
-        (Op::Subw, LEAST, 1, u64::MAX),
-        (Op::Sllw, 3, 31, LEAST_32),
-        (Op::Sllw, 3, 32, 3),
-        (Op::Srlw, LEAST_32, 31, 1),
-        (Op::Sraw, 0x8000_0000, 63, u64::MAX),
-    ];
-    for (op, a, b, want) in table {
-        assert_eq!(rt;
-            value_of(with(op, 3, 1, 2, 0), a, b),
-            Some(want),
-            "{op:?} {a} {b}"
-        );
-    }
-}
-
-#[test]
-fn loads(rt: HostRuntime) {
-    let table = [
-        (Op::Lb, 4, 0xffff_ffff_ffff_fff0),
-        (Op::Lb, 8, 0x78),
-        (Op::Lbu, 4, 0xf0),
-        (Op::Lh, 4, 0xffff_ffff_ffff_def0),
-        (Op::Lh, 8, 0x5678),
-        (Op::Lhu, 4, 0xdef0),
-        (Op::Lw, 4, 0xffff_ffff_9abc_def0),
-        (Op::Lw, 8, 0x1234_5678),
-        (Op::Lwu, 4, 0x9abc_def0),
-        (Op::Ld, 4, 0x1234_5678_9abc_def0),
-        (Op::Lw, 5, 0x789a_bcde),
-    ];
-    for (op, imm, want) in table {
-        assert_eq!(rt;
-            value_of(with(op, 3, 1, 0, imm), START, 0),
-            Some(want),
-            "{op:?} {imm}"
-        );
-    }
-}
-
-#[test]
-fn refused_accesses(rt: HostRuntime) {
-    // The first lacks the right, the second is half past the end; a store has no right.
-    let table = [
-        (with(Op::Ld, 3, 1, 0, 0), 5, START),
-        (with(Op::Ld, 3, 1, 0, 8), 5, START + 8),
-        (with(Op::Lb, 3, 1, 0, -1), 5, START - 1),
-        (with(Op::Sd, 0, 1, 2, 4), 7, START + 4),
-    ];
-    for (instr, cause, value) in table {
-        let Some((cx, trap)) = run(instr, START, 7) else {
-            panic!(rt; "{instr:?}")
+    for (word, fields) in table {
+        let instr = match fields {
+            Some((op, rd, rs1, rs2, imm)) => Some(Instr::new(op, rd, rs1, rs2, imm)),
+            None => None,
         };
-        assert_eq!(rt; trap, Some(Trap { cause, value }));
-        assert_eq!(rt; cx, registers(START, START, 7));
+        if let Some(word) = word {
+            assert_eq!(rt; decode(word), instr, "{word}");
+        }
+        if let Some(instr) = instr {
+            assert_eq!(rt; encode(&instr), word, "{instr:?}");
+        }
     }
+    // A fence's further fields are ignored.
+    assert_eq!(rt;
+        decode(0x0ff0_000f),
+        Some(Instr::new(Op::Fence, 0, 0, 0, 0))
+    );
 }
 
+/// What x3 holds after an instruction on x1 and x2 that goes on to the next.
 #[test]
-fn branches(rt: HostRuntime) {
+fn values(rt: HostRuntime) {
     let table = [
-        (Op::Beq, 5, 5, true),
-        (Op::Beq, 5, 6, false),
-        (Op::Bne, 5, 5, false),
-        (Op::Bne, 5, 6, true),
-        (Op::Blt, LEAST, GREATEST, true),
-        (Op::Blt, 5, 5, false),
-        (Op::Bge, LEAST, GREATEST, false),
-        (Op::Bge, 5, 5, true),
-        (Op::Bltu, LEAST, GREATEST, false),
-        (Op::Bltu, GREATEST, LEAST, true),
-        (Op::Bgeu, LEAST, GREATEST, true),
-        (Op::Bgeu, GREATEST, LEAST, false),
+        (Op::Addi, 1, 0, 1, u64::MAX, 0, 0),
+        (Op::Addi, 1, 0, -2048, 0, 0, u64::MAX - 2047),
+        (Op::Slti, 1, 0, 0, LEAST, 0, 1),
+        (Op::Slti, 1, 0, -1, 0, 0, 0),
+        (Op::Sltiu, 1, 0, -1, 0, 0, 1),
+        (Op::Sltiu, 1, 0, 5, 5, 0, 0),
+        (Op::Xori, 1, 0, -1, 1, 0, u64::MAX - 1),
+        (Op::Ori, 1, 0, -2048, 1, 0, u64::MAX - 2046),
+        (Op::Andi, 1, 0, 255, u64::MAX, 0, 255),
+        (Op::Slli, 1, 0, 0, 3, 0, 3),
+        (Op::Slli, 1, 0, 31, 3, 0, 3 << 31),
+        (Op::Slli, 1, 0, 32, 3, 0, 3 << 32),
+        (Op::Slli, 1, 0, 63, 3, 0, LEAST),
+        (Op::Srli, 1, 0, 31, LEAST, 0, 1 << 32),
+        (Op::Srli, 1, 0, 63, LEAST, 0, 1),
+        (Op::Srai, 1, 0, 0, LEAST, 0, LEAST),
+        (Op::Srai, 1, 0, 32, LEAST, 0, LEAST_32),
+        (Op::Srai, 1, 0, 63, LEAST, 0, u64::MAX),
+        (Op::Srai, 1, 0, 62, GREATEST, 0, 1),
+        (Op::Addiw, 1, 0, 1, 0x7fff_ffff, 0, LEAST_32),
+        (Op::Addiw, 1, 0, 0, 0xffff_ffff_0000_0000, 0, 0),
+        (Op::Slliw, 1, 0, 31, 3, 0, LEAST_32),
+        (Op::Slliw, 1, 0, 0, 0x1_0000_0003, 0, 3),
+        (Op::Srliw, 1, 0, 0, LEAST_32, 0, LEAST_32),
+        (Op::Srliw, 1, 0, 31, LEAST_32, 0, 1),
+        (Op::Sraiw, 1, 0, 31, 0x8000_0000, 0, u64::MAX),
+        (Op::Sraiw, 1, 0, 30, 0x7fff_ffff, 0, 1),
+        (Op::Lui, 0, 0, -4096, 0, 0, u64::MAX - 4095),
+        (Op::Auipc, 0, 0, -0x2_0000, 0, 0, u64::MAX - 0xffff),
+        (Op::Add, 1, 2, 0, u64::MAX, 1, 0),
+        (Op::Sub, 1, 2, 0, 0, 1, u64::MAX),
+        (Op::Sll, 1, 2, 0, 3, 63, LEAST),
+        (Op::Sll, 1, 2, 0, 3, 64, 3),
+        (Op::Slt, 1, 2, 0, LEAST, GREATEST, 1),
+        (Op::Slt, 1, 2, 0, GREATEST, LEAST, 0),
+        (Op::Sltu, 1, 2, 0, LEAST, GREATEST, 0),
+        (Op::Sltu, 1, 2, 0, 5, 5, 0),
+        (Op::Xor, 1, 2, 0, 6, 3, 5),
+        (Op::Srl, 1, 2, 0, LEAST, 127, 1),
+        (Op::Sra, 1, 2, 0, LEAST, 63, u64::MAX),
+        (Op::Or, 1, 2, 0, 6, 3, 7),
+        (Op::And, 1, 2, 0, 6, 3, 2),
+        (Op::Addw, 1, 2, 0, 0x7fff_ffff, 1, LEAST_32),
+        (Op::Subw, 1, 2, 0, LEAST, 1, u64::MAX),
+        (Op::Sllw, 1, 2, 0, 3, 31, LEAST_32),
+        (Op::Sllw, 1, 2, 0, 3, 32, 3),
+        (Op::Srlw, 1, 2, 0, LEAST_32, 31, 1),
+        (Op::Sraw, 1, 2, 0, 0x8000_0000, 63, u64::MAX),
+        (Op::Lb, 1, 0, 4, START, 0, 0xffff_ffff_ffff_fff0),
+        (Op::Lb, 1, 0, 8, START, 0, 0x78),
+        (Op::Lbu, 1, 0, 4, START, 0, 0xf0),
+        (Op::Lh, 1, 0, 4, START, 0, 0xffff_ffff_ffff_def0),
+        (Op::Lh, 1, 0, 8, START, 0, 0x5678),
+        (Op::Lhu, 1, 0, 4, START, 0, 0xdef0),
+        (Op::Lw, 1, 0, 4, START, 0, 0xffff_ffff_9abc_def0),
+        (Op::Lw, 1, 0, 8, START, 0, 0x1234_5678),
+        (Op::Lwu, 1, 0, 4, START, 0, 0x9abc_def0),
+        (Op::Ld, 1, 0, 4, START, 0, 0x1234_5678_9abc_def0),
+        (Op::Lw, 1, 0, 5, START, 0, 0x789a_bcde),
     ];
-    for (op, a, b, taken) in table {
-        let to = if taken { START - 8 } else { START + 4 };
+    for (op, rs1, rs2, imm, a, b, want) in table {
+        let mut cx = registers(NEXT, a, b);
+        cx.x[2] = want;
         assert_eq!(rt;
-            run(with(op, 0, 1, 2, -8), a, b),
-            Some((registers(to, a, b), None)),
-            "{op:?}"
+            run(Instr::new(op, 3, rs1, rs2, imm), a, b),
+            Some((cx, None)),
+            "{op:?} {imm} {a} {b}"
         );
-
-        // A target that isn't a multiple of 4 counts only where the branch is taken.
-        let trap = Trap {
-            cause: 0,
-            value: START + 6,
-        };
-        let want = if taken {
-            (registers(START, a, b), Some(trap))
-        } else {
-            (registers(to, a, b), None)
-        };
-        assert_eq!(rt; run(with(op, 0, 1, 2, 6), a, b), Some(want), "{op:?}");
     }
 }
 
+/// Where an instruction leads: the program counter and x1, or a trap that changes neither. A branch's
+/// target that isn't a multiple of 4 counts only where the branch is taken.
 #[test]
-fn jumps(rt: HostRuntime) {
-    let jalr = with(Op::Jalr, 1, 1, 0, 0);
-    assert_eq!(rt;
-        run(jalr, 0x2001, 0),
-        Some((registers(0x2000, START + 4, 0), None))
-    );
-    let trap = Trap {
-        cause: 0,
-        value: 0x2002,
-    };
-    assert_eq!(rt;
-        run(jalr, 0x2002, 0),
-        Some((registers(START, 0x2002, 0), Some(trap)))
-    );
-    let jal = with(Op::Jal, 1, 0, 0, -(START as i64));
-    assert_eq!(rt; run(jal, 0, 0), Some((registers(0, START + 4, 0), None)));
+fn ways(rt: HostRuntime) {
+    let table = [
+        (Op::Ld, 3, 1, 0, 0, START, 7, Err((5, START))),
+        (Op::Ld, 3, 1, 0, 8, START, 7, Err((5, START + 8))),
+        (Op::Lb, 3, 1, 0, -1, START, 7, Err((5, START - 1))),
+        (Op::Sd, 0, 1, 2, 4, START, 7, Err((7, NEXT))),
+        (Op::Beq, 0, 1, 2, -8, 5, 5, Ok((START - 8, 5))),
+        (Op::Beq, 0, 1, 2, 6, 5, 5, Err((0, START + 6))),
+        (Op::Beq, 0, 1, 2, -8, 5, 6, Ok((NEXT, 5))),
+        (Op::Beq, 0, 1, 2, 6, 5, 6, Ok((NEXT, 5))),
+        (Op::Bne, 0, 1, 2, -8, 5, 5, Ok((NEXT, 5))),
+        (Op::Bne, 0, 1, 2, 6, 5, 5, Ok((NEXT, 5))),
+        (Op::Bne, 0, 1, 2, -8, 5, 6, Ok((START - 8, 5))),
+        (Op::Bne, 0, 1, 2, 6, 5, 6, Err((0, START + 6))),
+        (
+            Op::Blt,
+            0,
+            1,
+            2,
+            -8,
+            LEAST,
+            GREATEST,
+            Ok((START - 8, LEAST)),
+        ),
+        (Op::Blt, 0, 1, 2, 6, LEAST, GREATEST, Err((0, START + 6))),
+        (Op::Blt, 0, 1, 2, -8, 5, 5, Ok((NEXT, 5))),
+        (Op::Blt, 0, 1, 2, 6, 5, 5, Ok((NEXT, 5))),
+        (Op::Bge, 0, 1, 2, -8, LEAST, GREATEST, Ok((NEXT, LEAST))),
+        (Op::Bge, 0, 1, 2, 6, LEAST, GREATEST, Ok((NEXT, LEAST))),
+        (Op::Bge, 0, 1, 2, -8, 5, 5, Ok((START - 8, 5))),
+        (Op::Bge, 0, 1, 2, 6, 5, 5, Err((0, START + 6))),
+        (Op::Bltu, 0, 1, 2, -8, LEAST, GREATEST, Ok((NEXT, LEAST))),
+        (Op::Bltu, 0, 1, 2, 6, LEAST, GREATEST, Ok((NEXT, LEAST))),
+        (
+            Op::Bltu,
+            0,
+            1,
+            2,
+            -8,
+            GREATEST,
+            LEAST,
+            Ok((START - 8, GREATEST)),
+        ),
+        (Op::Bltu, 0, 1, 2, 6, GREATEST, LEAST, Err((0, START + 6))),
+        (
+            Op::Bgeu,
+            0,
+            1,
+            2,
+            -8,
+            LEAST,
+            GREATEST,
+            Ok((START - 8, LEAST)),
+        ),
+        (Op::Bgeu, 0, 1, 2, 6, LEAST, GREATEST, Err((0, START + 6))),
+        (Op::Bgeu, 0, 1, 2, -8, GREATEST, LEAST, Ok((NEXT, GREATEST))),
+        (Op::Bgeu, 0, 1, 2, 6, GREATEST, LEAST, Ok((NEXT, GREATEST))),
+        (Op::Jalr, 1, 1, 0, 0, 0x2001, 0, Ok((0x2000, NEXT))),
+        (Op::Jalr, 1, 1, 0, 0, 0x2002, 0, Err((0, 0x2002))),
+        (Op::Jal, 1, 0, 0, -0x1_0000, 0, 0, Ok((0, NEXT))),
+    ];
+    for (op, rd, rs1, rs2, imm, a, b, end) in table {
+        let want = match end {
+            Ok((to, link)) => (registers(to, link, b), None),
+            Err((cause, value)) => (registers(START, a, b), Some(Trap { cause, value })),
+        };
+        assert_eq!(rt;
+            run(Instr::new(op, rd, rs1, rs2, imm), a, b),
+            Some(want),
+            "{op:?} {imm} {a} {b}"
+        );
+    }
 }
 
+/// Traps before an instruction's own, and a run past the last address.
 #[test]
 fn traps(rt: HostRuntime) {
     let table = [
@@ -386,7 +336,7 @@ fn traps(rt: HostRuntime) {
         (START, 0x0000_0000, 2, 0),
         (START, 0xffff_ffff, 2, 0xffff_ffff),
         (START + 2, 0x0000_0013, 0, START + 2),
-        (START + 4, 0x0000_0013, 1, START + 4),
+        (NEXT, 0x0000_0013, 1, NEXT),
         (START - 4, 0x0000_0013, 1, START - 4),
     ];
     for (pc, word, cause, value) in table {
@@ -397,10 +347,7 @@ fn traps(rt: HostRuntime) {
         );
         assert_eq!(rt; cx, registers(pc, 1, 2));
     }
-}
 
-#[test]
-fn past_the_last_address(rt: HostRuntime) {
     // addi x1, x1, 1 at the last word; the data that follow from address 0 on can't be run.
     let mut rom = Rom::new(u64::MAX - 3, 0x0010_8093, DATA);
     let mut cx = registers(u64::MAX - 3, 1, 2);

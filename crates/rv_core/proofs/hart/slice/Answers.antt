@@ -13,4 +13,4 @@ instructions-goes n k cx cx' m m' below goes =
 
 pub loop-done-preserved : goal.loop-done-preserved
 loop-done-preserved g c =
-    instructions-goes c.args.n c.loop-done._done _ _ _ _ c.loop-done-test.true c.in_default.ensures ∙ c.loop-done.invariant
+    instructions-goes c.args.n c.loop-done._done _ _ _ _ (omega arith) c.in_default.ensures ∙ c.loop-done.invariant
