@@ -5,47 +5,30 @@ ghost use Rattle.bas_edge.specs.Streams.{Gives};
 
 use crate::calm_sink::CalmSink;
 use crate::errors::EdgeError;
-use crate::failures::Failures;
+use crate::failing::Failing;
 use crate::sink::Sink;
 use std::alloc::Global;
-use std::marker::Model;
 
 /// A sink that keeps all bytes in memory and of which chosen calls fail. Contracts see the bytes given so far, and which calls fail.
-#[derive(Debug, Drop)]
-pub struct ByteSink {
-    sink: CalmSink,
-    failures: Failures,
-}
+pub type ByteSink = Failing<CalmSink>;
 
-impl Model for ByteSink {
-    ghost use Rattle.std.specs.Prelude.{ℕ, List};
-    ghost use Rattle.bas_edge.specs.Failures.{Failing};
-
-    ghost Value = { Failing (List ℕ) };
-
-    ghost view = { λ sink. record { held = sink.sink; calls = sink.failures } };
-}
-
-impl ByteSink {
+impl Failing<CalmSink> {
     /// A sink that was given nothing. The calls of `give` with the numbers in `failing` fail, the first being 1.
     pub fn new(alloc: Global, failing: Vec<u64>) -> ByteSink
         ensures { result ≡ failing_at [] failing.items }
     {
-        ByteSink {
-            sink: CalmSink::new(alloc),
-            failures: Failures::new(failing),
-        }
+        Failing::over(CalmSink::new(alloc), failing)
     }
 
     /// All bytes given so far.
     pub fn given(&self) -> &[u8]
         ensures { result.now ≡ self.now.held }
     {
-        self.sink.given()
+        self.inner.given()
     }
 }
 
-impl Sink for ByteSink {
+impl Sink for Failing<CalmSink> {
     ghost given = { λ sink. Some sink.held };
 
     ghost fault_count = { λ sink. sink.calls.failed };
@@ -61,7 +44,7 @@ impl Sink for ByteSink {
         ensures want { IsErrOf result EdgeError.Memory → self.new.calls.failed ≡ self.old.calls.failed }
     {
         self.failures.count_call()?;
-        self.sink.give(piece)
+        self.inner.give(piece)
     }
 
     fn faults(&self) -> u64 {

@@ -6,46 +6,29 @@ ghost use Rattle.bas_edge.specs.Streams.{Takes};
 
 use crate::calm_source::CalmSource;
 use crate::errors::Failed;
-use crate::failures::Failures;
+use crate::failing::Failing;
 use crate::source::Source;
-use std::marker::Model;
 
 /// Bytes in memory as a source of which chosen calls fail. Contracts see the bytes not yet taken, and which calls fail.
-#[derive(Debug, Drop)]
-pub struct ByteSource {
-    source: CalmSource,
-    failures: Failures,
-}
+pub type ByteSource = Failing<CalmSource>;
 
-impl Model for ByteSource {
-    ghost use Rattle.std.specs.Prelude.{ℕ, List};
-    ghost use Rattle.bas_edge.specs.Failures.{Failing};
-
-    ghost Value = { Failing (List ℕ) };
-
-    ghost view = { λ source. record { held = source.source; calls = source.failures } };
-}
-
-impl ByteSource {
+impl Failing<CalmSource> {
     /// A source of these bytes. The calls of `take` with the numbers in `failing` fail, the first being 1.
     pub fn new(bytes: Vec<u8>, failing: Vec<u64>) -> ByteSource
         ensures { result ≡ failing_at bytes.items failing.items }
     {
-        ByteSource {
-            source: CalmSource::new(bytes),
-            failures: Failures::new(failing),
-        }
+        Failing::over(CalmSource::new(bytes), failing)
     }
 
     /// The bytes not yet taken.
     pub fn left(&self) -> &[u8]
         ensures { result.now ≡ self.now.held }
     {
-        self.source.left()
+        self.inner.left()
     }
 }
 
-impl Source for ByteSource {
+impl Source for Failing<CalmSource> {
     ghost left = { λ source. Some source.held };
 
     ghost fault_count = { λ source. source.calls.failed };
@@ -61,7 +44,7 @@ impl Source for ByteSource {
         ensures same { OnErr result (self.new.held ≡ self.old.held) }
     {
         self.failures.count_call()?;
-        self.source.take(buffer)
+        self.inner.take(buffer)
     }
 
     fn faults(&self) -> u64 {

@@ -5,30 +5,14 @@ ghost use Rattle.bas_edge.specs.Files.{HasRange, file_bytes, file_length, file_o
 
 use crate::calm_shelf::CalmShelf;
 use crate::errors::{EdgeError, Memory};
-use crate::failures::Failures;
+use crate::failing::Failing;
 use crate::shelf::Shelf;
 use std::alloc::Global;
-use std::marker::Model;
 
 /// A user's files in memory of which chosen calls fail. Contracts see a map from the bytes of the names to bytes, and which calls fail.
-#[derive(Drop)]
-pub struct MapShelf {
-    shelf: CalmShelf,
-    failures: Failures,
-}
+pub type MapShelf = Failing<CalmShelf>;
 
-impl Model for MapShelf {
-    ghost use Rattle.bas_edge.specs.Failures.{Failing, failing_code};
-    ghost use Rattle.bas_edge.specs.Files.{Files, files_code};
-
-    ghost Value = { Failing Files };
-
-    ghost coded = { failing_code files_code };
-
-    ghost view = { λ shelf. record { held = shelf.shelf; calls = shelf.failures } };
-}
-
-impl MapShelf {
+impl Failing<CalmShelf> {
     /// A shelf of these files. Of a name given twice the last entry counts.
     /// The calls with the numbers in `failing` fail, the first being 1; `faults` and `file` aren't counted.
     pub fn new(
@@ -39,21 +23,18 @@ impl MapShelf {
         ensures { IfOk result (λ shelf. shelf ≡ failing_at (files_of (map text_entry_of files.items)) failing.items) }
     {
         let shelf = CalmShelf::new(alloc, files)?;
-        Ok(MapShelf {
-            shelf,
-            failures: Failures::new(failing),
-        })
+        Ok(Failing::over(shelf, failing))
     }
 
     /// The bytes of a file; `None` where no file has the name.
     pub fn file(&self, name: &str) -> Option<&[u8]>
         ensures { option_copied result ≡ file_of self.now.held name.now }
     {
-        self.shelf.file(name)
+        self.inner.file(name)
     }
 }
 
-impl Shelf for MapShelf {
+impl Shelf for Failing<CalmShelf> {
     ghost files = { λ shelf. Some shelf.held };
 
     ghost fault_count = { λ shelf. shelf.calls.failed };
@@ -67,7 +48,7 @@ impl Shelf for MapShelf {
         ensures want { IsErrOf result EdgeError.Memory → self.new.calls.failed ≡ self.old.calls.failed }
     {
         self.failures.count_call()?;
-        self.shelf.length(name)
+        self.inner.length(name)
     }
 
     fn read_at(&mut self, name: &str, at: u64, buffer: &mut [u8]) -> Result<(), EdgeError>
@@ -80,7 +61,7 @@ impl Shelf for MapShelf {
         ensures want { IsErrOf result EdgeError.Memory → self.new.calls.failed ≡ self.old.calls.failed }
     {
         self.failures.count_call()?;
-        self.shelf.read_at(name, at, buffer)
+        self.inner.read_at(name, at, buffer)
     }
 
     fn replace(&mut self, name: &str, bytes: &[u8]) -> Result<(), EdgeError>
@@ -92,7 +73,7 @@ impl Shelf for MapShelf {
         ensures want { IsErrOf result EdgeError.Memory → self.new.calls.failed ≡ self.old.calls.failed }
     {
         self.failures.count_call()?;
-        self.shelf.replace(name, bytes)
+        self.inner.replace(name, bytes)
     }
 
     fn append(&mut self, name: &str, bytes: &[u8]) -> Result<(), EdgeError>
@@ -104,7 +85,7 @@ impl Shelf for MapShelf {
         ensures want { IsErrOf result EdgeError.Memory → self.new.calls.failed ≡ self.old.calls.failed }
     {
         self.failures.count_call()?;
-        self.shelf.append(name, bytes)
+        self.inner.append(name, bytes)
     }
 
     fn faults(&self) -> u64 {

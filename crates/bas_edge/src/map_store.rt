@@ -5,30 +5,14 @@ ghost use Rattle.bas_edge.specs.Files.{HasFile, HasNoFile, HasRange, TakesBytes,
 
 use crate::calm_store::CalmStore;
 use crate::errors::{EdgeError, Memory};
-use crate::failures::Failures;
+use crate::failing::Failing;
 use crate::store::Store;
 use std::alloc::Global;
-use std::marker::Model;
 
 /// Files in memory of which chosen calls fail. Contracts see a map from names to bytes, and which calls fail.
-#[derive(Drop)]
-pub struct MapStore {
-    store: CalmStore,
-    failures: Failures,
-}
+pub type MapStore = Failing<CalmStore>;
 
-impl Model for MapStore {
-    ghost use Rattle.bas_edge.specs.Failures.{Failing, failing_code};
-    ghost use Rattle.bas_edge.specs.Files.{Files, files_code};
-
-    ghost Value = { Failing Files };
-
-    ghost coded = { failing_code files_code };
-
-    ghost view = { λ store. record { held = store.store; calls = store.failures } };
-}
-
-impl MapStore {
+impl Failing<CalmStore> {
     /// A store of these files. Of a name given twice the last entry counts.
     /// The calls with the numbers in `failing` fail, the first being 1; `faults` and `file` aren't counted.
     pub fn new(
@@ -39,21 +23,18 @@ impl MapStore {
         ensures { IfOk result (λ store. store ≡ failing_at (files_of (map entry_of files.items)) failing.items) }
     {
         let store = CalmStore::new(alloc, files)?;
-        Ok(MapStore {
-            store,
-            failures: Failures::new(failing),
-        })
+        Ok(Failing::over(store, failing))
     }
 
     /// The bytes of a file; `None` where no file has the name.
     pub fn file(&self, name: &[u8]) -> Option<&[u8]>
         ensures { option_copied result ≡ file_of self.now.held name.now }
     {
-        self.store.file(name)
+        self.inner.file(name)
     }
 }
 
-impl Store for MapStore {
+impl Store for Failing<CalmStore> {
     ghost files = { λ store. Some store.held };
 
     ghost fault_count = { λ store. store.calls.failed };
@@ -67,7 +48,7 @@ impl Store for MapStore {
         ensures want { IsErrOf result EdgeError.Memory → self.new.calls.failed ≡ self.old.calls.failed }
     {
         self.failures.count_call()?;
-        self.store.length(name)
+        self.inner.length(name)
     }
 
     fn read_at(&mut self, name: &[u8], at: u64, buffer: &mut [u8]) -> Result<(), EdgeError>
@@ -80,7 +61,7 @@ impl Store for MapStore {
         ensures want { IsErrOf result EdgeError.Memory → self.new.calls.failed ≡ self.old.calls.failed }
     {
         self.failures.count_call()?;
-        self.store.read_at(name, at, buffer)
+        self.inner.read_at(name, at, buffer)
     }
 
     fn write_at(&mut self, name: &[u8], at: u64, bytes: &[u8]) -> Result<(), EdgeError>
@@ -93,7 +74,7 @@ impl Store for MapStore {
         ensures want { IsErrOf result EdgeError.Memory → self.new.calls.failed ≡ self.old.calls.failed }
     {
         self.failures.count_call()?;
-        self.store.write_at(name, at, bytes)
+        self.inner.write_at(name, at, bytes)
     }
 
     fn create(&mut self, name: &[u8]) -> Result<(), EdgeError>
@@ -106,7 +87,7 @@ impl Store for MapStore {
         ensures want { IsErrOf result EdgeError.Memory → self.new.calls.failed ≡ self.old.calls.failed }
     {
         self.failures.count_call()?;
-        self.store.create(name)
+        self.inner.create(name)
     }
 
     fn remove(&mut self, name: &[u8]) -> Result<(), EdgeError>
@@ -119,7 +100,7 @@ impl Store for MapStore {
         ensures want { IsErrOf result EdgeError.Memory → self.new.calls.failed ≡ self.old.calls.failed }
     {
         self.failures.count_call()?;
-        self.store.remove(name)
+        self.inner.remove(name)
     }
 
     fn rename(&mut self, from: &[u8], to: &[u8]) -> Result<(), EdgeError>
@@ -132,7 +113,7 @@ impl Store for MapStore {
         ensures want { IsErrOf result EdgeError.Memory → self.new.calls.failed ≡ self.old.calls.failed }
     {
         self.failures.count_call()?;
-        self.store.rename(from, to)
+        self.inner.rename(from, to)
     }
 
     fn set_length(&mut self, name: &[u8], length: u64) -> Result<(), EdgeError>
@@ -145,7 +126,7 @@ impl Store for MapStore {
         ensures want { IsErrOf result EdgeError.Memory → self.new.calls.failed ≡ self.old.calls.failed }
     {
         self.failures.count_call()?;
-        self.store.set_length(name, length)
+        self.inner.set_length(name, length)
     }
 
     fn faults(&self) -> u64 {

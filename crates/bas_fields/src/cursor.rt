@@ -38,6 +38,13 @@ impl<'a> Cursor<'a> {
         Cursor { left: bytes }
     }
 
+    /// How many bytes are left.
+    pub fn left(&self) -> usize
+        ensures { result ≡ length self.now }
+    {
+        self.left.len()
+    }
+
     /// The next byte. Where none is left the cursor stays.
     pub fn take_u8(&mut self) -> Result<u8, FieldError>
         ensures taken { IfOk result (λ byte. self.old ≡ byte ∷ self.new) }

@@ -21,9 +21,20 @@ fn fields_in_turn(rt: HostRuntime) -> Result<(), Fail> {
 }
 
 #[test]
+fn a_field_in_pieces(rt: HostRuntime) {
+    let mut pieces = [0; 9];
+    let n = 0x0102_0304_0506_0708;
+    assert_eq!(rt; write_u64(&mut pieces[..3], n, 0), 3);
+    assert_eq!(rt; write_u64(&mut pieces[3..], n, 3), 5);
+    assert_eq!(rt; write_u64(&mut pieces[8..], n, 8), 0);
+    assert_eq!(rt; pieces, [8, 7, 6, 5, 4, 3, 2, 1, 0]);
+}
+
+#[test]
 fn seven_bytes_are_too_few(rt: HostRuntime) -> Result<(), Fail> {
     let mut cursor = Cursor::new(&[1, 2, 3, 4, 5, 6, 7]);
     assert_eq!(rt; cursor.take_u64(), Err(FieldError::Short));
+    assert_eq!(rt; cursor.left(), 7);
     assert_eq!(rt; cursor.take_bytes(7)?, [1, 2, 3, 4, 5, 6, 7].as_slice());
     assert_eq!(rt; cursor.end(), Ok(()));
     Ok(())

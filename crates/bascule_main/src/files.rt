@@ -1,4 +1,4 @@
-ghost use Rattle.std.specs.Prelude.{◌≡◌, OnOk};
+ghost use Rattle.std.specs.Prelude.{◌≡◌, IsErrOf, OnOk};
 ghost use Rattle.bas_edge.specs.Faults.{HasCause};
 
 use bas_edge::EdgeError;
@@ -10,6 +10,7 @@ use std::rt::Files;
 /// `u64`.
 pub fn counted<T>(faults: &mut u64, answer: io::Result<T>) -> Result<T, EdgeError>
     ensures same { OnOk result (faults.new ≡ faults.old) }
+    ensures want { IsErrOf result EdgeError.Memory → faults.new ≡ faults.old }
     ensures cause { HasCause EdgeError.Failed faults.old faults.new result }
 {
     match answer {
