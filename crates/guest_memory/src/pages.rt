@@ -11,7 +11,7 @@ ghost use Rattle.guest_memory.specs.Refusals.{access_refusal, allocate_refusal, 
 use crate::access::{copy_in, copy_out, refused_access};
 use crate::error::PageError;
 use crate::page::{ALL_RIGHTS, MOST_PAGES, PAGE_SIZE, Page, READ, RUN, WRITE};
-use crate::place::{HINTS, Hints, note_places};
+use crate::place::{Hints, make_table, note_places};
 use crate::run::{
     insert_run, is_page_run, missing_page, place_for, protect_run, refused_pages, remove_run,
 };
@@ -72,7 +72,7 @@ impl Pages {
     {
         Pages {
             pages: Vec::new(alloc),
-            hints: [0; HINTS],
+            hints: None,
         }
     }
 
@@ -116,8 +116,13 @@ impl Pages {
         if self.pages.try_reserve(count as usize).is_err() {
             return Err(PageError::Memory);
         }
+        if make_table(&mut self.hints, *self.pages.allocator()).is_err() {
+            return Err(PageError::Memory);
+        }
         insert_run(&mut self.pages, place, page, count, rights);
-        note_places(&self.pages, &mut self.hints, place);
+        if let Some(table) = &mut self.hints {
+            note_places(&self.pages, table, place);
+        }
         Ok(())
     }
 
@@ -137,7 +142,9 @@ impl Pages {
             return Err(PageError::Unmapped(missing));
         }
         remove_run(&mut self.pages, page, count);
-        note_places(&self.pages, &mut self.hints, 0);
+        if let Some(table) = &mut self.hints {
+            note_places(&self.pages, table, 0);
+        }
         Ok(())
     }
 
