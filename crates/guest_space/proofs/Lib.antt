@@ -8,3 +8,4 @@ pub mod Bytes
 pub mod Filling
 pub mod Turns
 pub mod RunLaws
+pub mod Regions
