@@ -9,3 +9,4 @@ pub mod Filling
 pub mod Turns
 pub mod RunLaws
 pub mod Regions
+pub mod RegionChanges
