@@ -10,3 +10,4 @@ pub mod Turns
 pub mod RunLaws
 pub mod Regions
 pub mod RegionChanges
+pub mod RegionBytes

@@ -1,29 +1,25 @@
 -- The regions of a space, and of one with more pages, fewer, or other rights.
-use Rattle.std.proofs.Common.{◌≡◌, ℕ, ◌+◌, ◌-◌, ◌<◌, ◌≤◌, ◌==◌, ◌&&◌, min, max, Bool, true, false, cond, nat_lt, nat_le, T, List, [], ◌∷◌, ◌++◌, map, refl, sym, ap, ◌∙◌, subst, arith, Option, Some, None, inl, inr}
-use Rattle.std.proofs.lemmas.Bool.{cases_lt, cond-true, cond-false}
+use Rattle.std.proofs.Common.{◌≡◌, ℕ, ◌+◌, ◌-◌, ◌<◌, ◌≤◌, min, max, Bool, true, false, cond, nat_lt, nat_le, T, List, [], ◌∷◌, ◌++◌, map, refl, sym, ap, ◌∙◌, subst, arith, Option, Some, None, inl, inr}
+use Rattle.std.proofs.lemmas.Bool.{cases_lt}
 use Rattle.std.proofs.lemmas.Bool.Decides.{nat_tests}
 use Rattle.std.specs.Option.{is_some, option_map, option_or}
 use Rattle.std.specs.Ordering.{nat_cmp, eq_by_cmp, is_lt}
 use Rattle.std.specs.FinMap.{get, entries, entries_sorted, get-entries}
 use Rattle.std.specs.FinMap.Entries.{find, below_all, is_sorted}
+use Rattle.rv_core.specs.Memory.{Memory}
 use Rattle.guest_space.specs.declared.Extent.{Extent}
-use Rattle.guest_space.specs.Space.{Space, Frame, in_run, page_rights, with_run, without_run, protected}
+use Rattle.guest_space.specs.Space.{Space, Frame, in_run, page_rights, with_run, without_run, protected, with_memory}
 use Rattle.guest_space.specs.Run.{first_missing, if_missing}
 use Rattle.guest_space.specs.Regions.{extent_end, AreMaximal, AreRegions, extent_rights, merged, page_extent, regions, pages_before, pages_from, with_extent, without_pages}
-use Rattle.guest_space.proofs.Gets.{eq_by_nat_cmp, get-without_run}
+use Rattle.guest_space.proofs.Gets.{get-without_run}
 use Rattle.guest_space.proofs.FirstSome.{first_some_none_at}
-use Rattle.guest_space.proofs.Filling.{page_rights-with_run, page_rights-protected}
-use Rattle.guest_space.proofs.Regions.{AreRising, AreRising-weaker, AreFrom, merged-maximal, extent_rights-merged, same_extents}
+use Rattle.guest_space.proofs.Filling.{page_rights-with_run, page_rights-protected, page_rights-with_memory}
+use Rattle.guest_space.proofs.Regions.{AreRising, AreRising-weaker, AreFrom, AreFrom-zero, both, merged-maximal, extent_rights-merged, same_extents}
 
 -- ---- the pages one by one
 
 less_than : (a b : ℕ) → is_lt (nat_cmp a b) ≡ true → a < b
 less_than a b is = grind (arith, nat_tests)
-
-both : (a b : Bool) → (a && b) ≡ true → (a ≡ true) × (b ≡ true)
-both true true is = (refl, refl)
-both true false is = absurd (cc)
-both false b is = absurd (cc)
 
 AreRising-entries : (k : ℕ) (es : List (ℕ × Frame)) → below_all nat_cmp k es ≡ true → is_sorted nat_cmp es ≡ true → AreRising (k + 1) (map page_extent es)
 AreRising-entries k [] low sorted = tt
@@ -85,11 +81,7 @@ AreRising-maximal from (e ∷ []) maximal low = (low, maximal.0, tt)
 AreRising-maximal from (e ∷ next ∷ es) maximal low = (low, maximal.0, AreRising-maximal (extent_end e) (next ∷ es) maximal.2 (let before = maximal.1 in before.0))
 
 rising_regions : (s : Space) → AreRising 0 (regions s)
-rising_regions s = AreRising-maximal 0 (regions s) (AreRegions-regions s).maximal (from_zero (regions s))
-  where
-    from_zero : (es : List Extent) → AreFrom 0 es
-    from_zero [] = tt
-    from_zero (e ∷ es) = omega arith
+rising_regions s = AreRising-maximal 0 (regions s) (AreRegions-regions s).maximal (AreFrom-zero (regions s))
 
 -- ---- parts of regions
 
@@ -185,7 +177,7 @@ regions-with_extent s t e some is =
     let behind = pages_from (extent_end e) (regions s) in
     regions-merged t (pages_before e.page (regions s) ++ (e ∷ behind))
     (AreRising-before e.page 0 (regions s) (e ∷ behind) (omega arith) up
-        (omega arith, some, AreRising-weaker (extent_end e) (max 0 (extent_end e)) behind (omega arith) (AreRising-from (extent_end e) 0 (regions s) up)))
+    (omega arith, some, AreRising-weaker (extent_end e) (max 0 (extent_end e)) behind (omega arith) (AreRising-from (extent_end e) 0 (regions s) up)))
     (λ q. extent_rights-append (pages_before e.page (regions s)) (e ∷ behind) q
     ∙ (λ i. option_or (extent_rights-before e.page (regions s) q i) (cond (in_run e.page e.count q) (Some e.rights) (extent_rights-from (extent_end e) (regions s) q i)))
     ∙ put_between e.page e.count q (Some e.rights) (extent_rights (regions s) q)
@@ -216,6 +208,11 @@ regions-protected s page count rights some there =
     regions-with_extent s (protected s page count rights) (record { page = page; count = count; rights = rights }) some
     (λ q. page_rights-protected s page count rights q ∙ changed_rights s page count rights q there)
 
+pub regions-with_memory : (s : Space) (m : Memory) → regions (with_memory s m) ≡ regions s
+regions-with_memory s m =
+    let own = AreRegions-regions s in
+    sym (regions-unique (with_memory s m) (regions s) (record { maximal = own.maximal; rights = λ q. own.rights q ∙ sym (page_rights-with_memory s m q) }))
+
 pub page_rights-without_run : (s : Space) (page count q : ℕ) → page_rights (without_run s page count) q ≡ cond (in_run page count q) None (page_rights s q)
 page_rights-without_run s page count q =
     ap (option_map (λ (f : Frame). f.rights)) (get-without_run s page count q) ∙ moved (in_run page count q) (get s q)
@@ -236,7 +233,7 @@ regions-without_run s page count =
     let behind = pages_from (page + count) (regions s) in
     regions-merged (without_run s page count) (pages_before page (regions s) ++ behind)
     (AreRising-before page 0 (regions s) behind (omega arith) up
-        (AreRising-weaker page (max 0 (page + count)) behind (omega arith) (AreRising-from (page + count) 0 (regions s) up)))
+    (AreRising-weaker page (max 0 (page + count)) behind (omega arith) (AreRising-from (page + count) 0 (regions s) up)))
     (λ q. extent_rights-append (pages_before page (regions s)) behind q
     ∙ (λ i. option_or (extent_rights-before page (regions s) q i) (extent_rights-from (page + count) (regions s) q i))
     ∙ left_out page count q (extent_rights (regions s) q)

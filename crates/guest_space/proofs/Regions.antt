@@ -1,12 +1,11 @@
 -- Lists of extents: what joining them keeps, and that the maximal list with given rights is one.
-use Rattle.std.proofs.Common.{◌≡◌, ◌≢◌, ℕ, ◌+◌, ◌-◌, ◌<◌, ◌≤◌, ◌==◌, ◌&&◌, min, max, Bool, true, false, cond, nat_lt, nat_le, List, [], ◌∷◌, ◌++◌, map, refl, sym, ap, ◌∙◌, subst, arith, Option, Some, None, inl, inr}
+use Rattle.std.proofs.Common.{◌≡◌, ℕ, ◌+◌, ◌<◌, ◌≤◌, ◌==◌, ◌&&◌, Bool, true, false, cond, List, [], ◌∷◌, refl, sym, ap, ◌∙◌, arith, Some, None, inl, inr}
 use Rattle.std.proofs.lemmas.Bool.{cases_lt, cases_eq, eqb-true}
 use Rattle.std.proofs.lemmas.Bool.Decides.{nat_tests}
 use Rattle.std.proofs.lemmas.Option.{none-some, same_Some}
-use Rattle.std.specs.Option.{option_or}
 use Rattle.guest_space.specs.declared.Extent.{Extent}
 use Rattle.guest_space.specs.Space.{in_run}
-use Rattle.guest_space.specs.Regions.{extent_end, IsBefore, AreMaximal, extent_rights, joined, merged, pages_before, pages_from, with_extent, without_pages}
+use Rattle.guest_space.specs.Regions.{extent_end, IsBefore, AreMaximal, extent_rights, joined, merged}
 
 -- extents that have pages and rise from a page on
 abbrev pub AreRising : ℕ → List Extent → Type 0
@@ -22,9 +21,13 @@ pub AreRising-weaker : (m n : ℕ) (es : List Extent) → m ≤ n → AreRising 
 AreRising-weaker m n [] h rising = tt
 AreRising-weaker m n (e ∷ es) h rising = let low = rising.0 in (omega arith, rising.1, rising.2)
 
-AreFrom-before : (e : Extent) (es : List Extent) → IsBefore e es → AreFrom (extent_end e) es
+pub AreFrom-before : (e : Extent) (es : List Extent) → IsBefore e es → AreFrom (extent_end e) es
 AreFrom-before e [] before = tt
 AreFrom-before e (next ∷ es) before = before.0
+
+pub AreFrom-zero : (es : List Extent) → AreFrom 0 es
+AreFrom-zero [] = tt
+AreFrom-zero (e ∷ es) = omega arith
 
 -- ---- joining
 
@@ -36,7 +39,7 @@ IsBefore-two e next (f ∷ es) at same before =
     let low = before.0 in
     (omega arith, λ here rights. before.1 (omega arith) (sym same ∙ rights))
 
-both : (a b : Bool) → (a && b) ≡ true → (a ≡ true) × (b ≡ true)
+pub both : (a b : Bool) → (a && b) ≡ true → (a ≡ true) × (b ≡ true)
 both true true is = (refl, refl)
 both true false is = absurd (cc)
 both false b is = absurd (cc)
@@ -84,7 +87,7 @@ extent_rights-joined e (next ∷ es) q =
           let parts = both (extent_end e == next.page) (e.rights == next.rights) is in
           two_runs e.page e.count next.count q (Some e.rights) (extent_rights es q)
           ∙ (λ i. cond (in_run e.page e.count q) (Some e.rights)
-              (cond (in_run (eqb-true (extent_end e) next.page parts.0 i) next.count q) (Some (eqb-true e.rights next.rights parts.1 i)) (extent_rights es q)))
+          (cond (in_run (eqb-true (extent_end e) next.page parts.0 i) next.count q) (Some (eqb-true e.rights next.rights parts.1 i)) (extent_rights es q)))
       | false ↦ λ is. refl
     ] refl
 
@@ -95,28 +98,25 @@ extent_rights-merged (e ∷ es) q = extent_rights-joined e (merged es) q ∙ ap 
 
 -- ---- one list
 
-inside : (page count : ℕ) → 1 ≤ count → in_run page count page ≡ true
-inside page count some = grind (arith, nat_tests)
+pub in_run_within : (page count q : ℕ) → page ≤ q → q < page + count → in_run page count q ≡ true
+in_run_within page count q low high = grind (arith, nat_tests)
 
-within : (page count q : ℕ) → page ≤ q → q < page + count → in_run page count q ≡ true
-within page count q low high = grind (arith, nat_tests)
+pub in_run_before : (page count q : ℕ) → q < page → in_run page count q ≡ false
+in_run_before page count q low = grind (arith, nat_tests)
 
-below : (page count q : ℕ) → q < page → in_run page count q ≡ false
-below page count q low = grind (arith, nat_tests)
-
-behind : (page count q : ℕ) → page + count ≤ q → in_run page count q ≡ false
-behind page count q high = grind (arith, nat_tests)
+pub in_run_behind : (page count q : ℕ) → page + count ≤ q → in_run page count q ≡ false
+in_run_behind page count q high = grind (arith, nat_tests)
 
 extent_rights_here : (e : Extent) (es : List Extent) (q : ℕ) → e.page ≤ q → q < extent_end e → extent_rights (e ∷ es) q ≡ Some e.rights
-extent_rights_here e es q low high = ap (λ b. cond b (Some e.rights) (extent_rights es q)) (within e.page e.count q low high)
+extent_rights_here e es q low high = ap (λ b. cond b (Some e.rights) (extent_rights es q)) (in_run_within e.page e.count q low high)
 
 extent_rights_behind : (e : Extent) (es : List Extent) (q : ℕ) → extent_end e ≤ q → extent_rights (e ∷ es) q ≡ extent_rights es q
-extent_rights_behind e es q high = ap (λ b. cond b (Some e.rights) (extent_rights es q)) (behind e.page e.count q high)
+extent_rights_behind e es q high = ap (λ b. cond b (Some e.rights) (extent_rights es q)) (in_run_behind e.page e.count q high)
 
 extent_rights_before : (from : ℕ) (es : List Extent) (q : ℕ) → AreMaximal es → AreFrom from es → q < from → extent_rights es q ≡ None
 extent_rights_before from [] q maximal low h = refl
 extent_rights_before from (e ∷ es) q maximal low h =
-    ap (λ b. cond b (Some e.rights) (extent_rights es q)) (below e.page e.count q (omega arith))
+    ap (λ b. cond b (Some e.rights) (extent_rights es q)) (in_run_before e.page e.count q (omega arith))
     ∙ extent_rights_before (extent_end e) es q maximal.2 (AreFrom-before e es maximal.1) (omega arith)
 
 -- the rights change behind an extent

@@ -87,7 +87,7 @@ without_pages page count extents =
 -- ---- regions with their bytes
 
 abbrev pub region_bytes : Space → Extent → List ℕ
-region_bytes s e = bytes_from (memory_of s) (4096 * e.page) (4096 * e.count)
+region_bytes s e = bytes_from (memory_of s) (e.page * 4096) (e.count * 4096)
 
 -- The regions of a space, each with its bytes.
 abbrev pub regions_with_bytes : Space → List (Extent × List ℕ)
@@ -98,7 +98,7 @@ unfoldable pub with_pages : Space → ℕ → ℕ → ℕ → List ℕ → Space
 with_pages s page zero rights bytes = s
 with_pages s page (suc n) rights bytes =
     insert (with_pages s page n rights bytes) (page + n)
-    (record { rights = rights; bytes = slice_range bytes (4096 * n) (4096 * n + 4096) })
+    (record { rights = rights; bytes = slice_range bytes (n * 4096) (n * 4096 + 4096) })
 
 -- The space of regions with their bytes.
 unfoldable pub space_from : List (Extent × List ℕ) → Space
@@ -108,4 +108,4 @@ space_from (r ∷ regions) = with_pages (space_from regions) (r.0).page (r.0).co
 -- Regions with bytes that a space can have.
 pub record AreRegionsWithBytes (regions : List (Extent × List ℕ)) : Type 0 where
   pub maximal : AreMaximal (map (λ r. r.0) regions)
-  pub whole : All (λ (r : Extent × List ℕ). length r.1 ≡ 4096 * (r.0).count) regions
+  pub whole : All (λ (r : Extent × List ℕ). length r.1 ≡ (r.0).count * 4096) regions
