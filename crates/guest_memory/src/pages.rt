@@ -76,6 +76,13 @@ impl Pages {
         }
     }
 
+    /// Each page is one that a process may have, with 4,096 bytes. Does nothing: it is called to know this.
+    pub fn pages_are_sound(&self)
+        ensures { IsSpace self.now }
+    {
+        let _ = &self.pages;
+    }
+
     /// How many pages there are.
     pub fn len(&self) -> usize
         ensures count { result ≡ map.len self.now }
@@ -263,10 +270,9 @@ impl Pages {
         ensures { run_space n context.old self.old
             ≡ record { context = context.new; space = self.new; trap = trap_of result } }
     {
-        // Before and after, the pages are ones that a process may have.
-        let _ = &self.pages;
+        self.pages_are_sound();
         let ended = slice(context, self, n);
-        let _ = &self.pages;
+        self.pages_are_sound();
         ended
     }
 }
