@@ -1,10 +1,11 @@
 -- Places for new runs of pages, and runs of pages that are there or aren't.
-use Rattle.std.proofs.Common.{◌≡◌, ℕ, zero, suc, ◌+◌, ◌-◌, ◌<◌, ◌≤◌, Bool, true, false, not, cond, List, [], ◌∷◌, length, get_or, replicate, refl, sym, ap, ◌∙◌, arith, Option, Some, None, inl, inr}
+use Rattle.std.proofs.Common.{◌≡◌, ℕ, zero, suc, ◌+◌, ◌-◌, ◌<◌, ◌≤◌, Bool, true, false, not, cond, List, [], ◌∷◌, ◌++◌, length, get_or, replicate, take, drop, refl, sym, ap, ◌∙◌, subst, add-one, arith, Option, Some, None, inl, inr}
 use Rattle.std.proofs.lemmas.Bool.{cases_lt, cases_eq, false≢true, true≢false}
 use Rattle.std.proofs.lemmas.Bool.Decides.{nat_tests}
-use Rattle.std.proofs.lemmas.List.{get_or_default}
-use Rattle.std.proofs.lemmas.List.Edits.{length-insert, get_or-insert_below, get_or-insert_at, get_or-insert_above}
-use Rattle.std.specs.List.{insert, filter}
+use Rattle.std.proofs.lemmas.List.{get_or_default, length-append, length-take-le, take-append-drop, take-append-le, drop-append-le}
+use Rattle.std.proofs.Math.Seq.{drop-append_seam, take-append_seam}
+use Rattle.std.proofs.lemmas.List.Edits.{length-insert, get_or-insert_below, get_or-insert_at, get_or-insert_above, insert-append_left, insert-append_right, insert_end}
+use Rattle.std.specs.List.{insert, filter, slice_rotate_right}
 use Rattle.std.specs.Ordering.{nat_cmp}
 use Rattle.std.specs.Option.{is_some, MatchOption}
 use Rattle.std.specs.FinMap as map
@@ -15,7 +16,7 @@ use Rattle.guest_space.specs.Run.{is_run, first_held, if_held, if_missing}
 use Rattle.guest_space.proofs.RunLaws.{if_held_some, if_held_none, if_missing_none, if_missing_some}
 use Rattle.guest_space.proofs.FirstSome.{first_some-here, first_some-none, first_some-at}
 use Rattle.guest_space.proofs.Gets.{get-without_run}
-use Rattle.guest_space.proofs.Runs.{with_run-suc}
+use Rattle.guest_space.proofs.Runs.{with_run-zero, with_run-suc}
 use Rattle.guest_space.proofs.Spaces.{IsFrame-blank}
 use Rattle.guest_space.proofs.Puts.{put_comm, same_spaces}
 use Rattle.guest_memory.specs.declared.page.Page.{Page}
@@ -157,6 +158,77 @@ module _ (ps : List Page) (page count place rights k : ℕ) (run : is_run page c
       space_of-insert 0 ps (place + k) (blank_page (page + k) rights) gap_here
       ∙ ap (λ t. map.insert t (page + k) (blank rights)) is
       ∙ sym (with_run-suc s page k rights)
+
+-- the first pages of a run
+abbrev pub blank_pages : ℕ → ℕ → ℕ → List Page
+blank_pages page rights zero = []
+blank_pages page rights (suc k) = blank_pages page rights k ++ blank_page (page + k) rights ∷ []
+
+pub length-blank_pages : (page rights k : ℕ) → length (blank_pages page rights k) ≡ k
+length-blank_pages page rights zero = refl
+length-blank_pages page rights (suc k) =
+    length-append (blank_pages page rights k) (blank_page (page + k) rights ∷ []) ∙ ap (λ n. n + 1) (length-blank_pages page rights k) ∙ add-one k
+
+pub blank_pages-more : (page rights k : ℕ) → blank_pages page rights (k + 1) ≡ blank_pages page rights k ++ blank_page (page + k) rights ∷ []
+blank_pages-more page rights k = ap (blank_pages page rights) (add-one k)
+
+-- pages with the first of a run at a place
+abbrev pub with_blank_pages : List Page → ℕ → ℕ → ℕ → ℕ → List Page
+with_blank_pages ps page place rights k = take place ps ++ (blank_pages page rights k ++ drop place ps)
+
+with_blank_pages-none : (ps : List Page) (page place rights : ℕ) → with_blank_pages ps page place rights 0 ≡ ps
+with_blank_pages-none ps page place rights = take-append-drop place ps
+
+with_blank_pages-more : (ps : List Page) (page place rights k : ℕ) → place ≤ length ps
+    → insert (with_blank_pages ps page place rights k) (place + k) (blank_page (page + k) rights) ≡ with_blank_pages ps page place rights (k + 1)
+with_blank_pages-more ps page place rights k within =
+    let new = blank_pages page rights k in
+    let p = blank_page (page + k) rights in
+    let long = length-blank_pages page rights k in
+    let here : place + k - place ≡ length new = omega arith in
+    insert-append_right (take place ps) (new ++ drop place ps) place (place + k) p (length-take-le place ps within) (omega arith)
+    ∙ ap (λ i. take place ps ++ insert (new ++ drop place ps) i p) here
+    ∙ ap (λ qs. take place ps ++ qs) (insert-append_left new (drop place ps) (length new) p (omega arith))
+    ∙ ap (λ qs. take place ps ++ (qs ++ drop place ps)) (insert_end new p ∙ sym (blank_pages-more page rights k))
+
+-- what a run of pages leaves at their place
+pub record IsRunAdded (ps : List Page) (page count place rights k : ℕ) (added : List Page) : Type 0 where
+  pub order : AreInOrder added
+  pub gap : IsGap added (page + k) (count - k) (place + k)
+  pub after : space_of added ≡ with_run (space_of ps) page k rights
+
+module _ (ps : List Page) (page count place rights : ℕ) (run : is_run page count ≡ true) (below : rights < 8) (order : AreInOrder ps) (gap : IsGap ps page count place) where
+  run_added : (k : ℕ) → k ≤ count → IsRunAdded ps page count place rights k (with_blank_pages ps page place rights k)
+  run_added zero h =
+      subst (IsRunAdded ps page count place rights 0) (sym (with_blank_pages-none ps page place rights)) (record {
+        order = order;
+        gap = IsGap-same ps page count place (page + 0) (count - 0) (place + 0) (omega arith) (omega arith) (omega arith) gap;
+        after = sym (with_run-zero (space_of ps) page rights);
+      })
+  run_added (suc k) h =
+      let before = run_added k (omega arith) in
+      let added = with_blank_pages ps page place rights k in
+      let next : IsRunAdded ps page count place rights (k + 1) (insert added (place + k) (blank_page (page + k) rights)) = record {
+        order = AreInOrder-next added page count place rights k run below (omega arith) before.order before.gap;
+        gap = IsGap-next added page count place rights k run below (omega arith) before.order before.gap;
+        after = space_of-next added page count place rights k run below (omega arith) before.order before.gap (space_of ps) before.after;
+      } in
+      let more : k + 1 ≡ suc k = omega arith in
+      subst (λ n. IsRunAdded ps page count place rights n (with_blank_pages ps page place rights n)) more
+      (subst (IsRunAdded ps page count place rights (k + 1)) (with_blank_pages-more ps page place rights k gap.within) next)
+
+  pub IsRunAdded-rotated : (added : List Page) → added ≡ take place (ps ++ blank_pages page rights count) ++ slice_rotate_right (drop place (ps ++ blank_pages page rights count)) count → IsRunAdded ps page count place rights count added
+  IsRunAdded-rotated added is =
+      let new = blank_pages page rights count in
+      let long = length-blank_pages page rights count in
+      let rest = drop-append-le place ps new gap.within in
+      let behind : length (drop place ps ++ new) - count ≡ length (drop place ps) = omega (arith, length-append (drop place ps) new) in
+      let turned : slice_rotate_right (drop place (ps ++ new)) count ≡ new ++ drop place ps =
+      ap (λ qs. slice_rotate_right qs count) rest
+      ∙ ap (λ n. drop n (drop place ps ++ new) ++ take n (drop place ps ++ new)) behind
+      ∙ (λ i. drop-append_seam (drop place ps) new i ++ take-append_seam (drop place ps) new i) in
+      let same : added ≡ with_blank_pages ps page place rights count = is ∙ (λ i. take-append-le place ps new gap.within i ++ turned i) in
+      subst (IsRunAdded ps page count place rights count) (sym same) (run_added count (omega arith))
 
 -- ---- the pages outside a run
 abbrev pub is_outside : ℕ → ℕ → Page → Bool

@@ -1,3 +1,4 @@
 pub mod Pages
 pub mod PageBytes
 pub mod Refusals
+pub mod Hints

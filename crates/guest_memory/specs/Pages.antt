@@ -1,5 +1,5 @@
 -- Lists of pages by rising number, and the space that they make.
-use Rattle.std.specs.Prelude.{◌≡◌, ◌≢◌, ℕ, ◌+◌, ◌%◌, ◌^◌, ◌<◌, ◌≤◌, List, [], ◌∷◌, map, length, slice_index, slice_index_or, Some, None}
+use Rattle.std.specs.Prelude.{◌≡◌, ℕ, ◌+◌, ◌^◌, ◌<◌, ◌≤◌, List, [], ◌∷◌, map, length, slice_index_or, Some, None}
 use Rattle.std.specs.Ordering.{nat_cmp}
 use Rattle.std.specs.FinMap.{from_entries, get}
 use Rattle.guest_space.specs.Space.{Frame, Space, IsFrame, memory_of}
@@ -49,25 +49,3 @@ IsAbsent pages number = get (space_of pages) number ≡ None
 pub record AreThere (s : Space) (at n : ℕ) : Type 0 where
   pub end : at + n < 2 ^ 64
   pub there : first_fault (memory_of s) 0 at n ≡ None
-
--- The slot of the hint of the page at a place.
-abbrev pub slot_at : List Page → ℕ → Page → ℕ
-slot_at pages place d = (slice_index_or pages place d).number % 1024
-
--- The hint in the slot of the page at a place is the place of a page from there on, before an end, with the same slot.
-pub record IsNoted (pages : List Page) (hints : List ℕ) (end place : ℕ) (d : Page) : Type 0 where
-  pub last : ℕ
-  pub from_there : place ≤ last
-  pub within : last < end
-  pub same : slot_at pages last d ≡ slot_at pages place d
-  pub hint : slice_index hints (slot_at pages place d) ≡ last % 65536
-
--- Each page between two places is noted: of those that share a slot, the last.
-abbrev pub AreNoted : List Page → List ℕ → ℕ → ℕ → Type 0
-AreNoted pages hints from end = (place : ℕ) (d : Page) → from ≤ place → place < end → IsNoted pages hints end place d
-
--- The slots of no page between two places keep their hints.
-abbrev pub AreKept : List Page → List ℕ → List ℕ → ℕ → ℕ → Type 0
-AreKept pages before after from end =
-    (slot : ℕ) → ((place : ℕ) (d : Page) → from ≤ place → place < end → slot_at pages place d ≢ slot)
-    → slice_index after slot ≡ slice_index before slot

@@ -11,7 +11,7 @@ ghost use Rattle.guest_memory.specs.Refusals.{access_refusal, allocate_refusal, 
 use crate::access::{copy_in, copy_out, refused_access};
 use crate::error::PageError;
 use crate::page::{ALL_RIGHTS, MOST_PAGES, PAGE_SIZE, Page, READ, RUN, WRITE};
-use crate::place::{HINTS, Hints, note_places};
+use crate::place::{Hints, make_table, note_places};
 use crate::run::{
     insert_run, is_page_run, missing_page, place_for, protect_run, refused_pages, remove_run,
 };
@@ -72,8 +72,15 @@ impl Pages {
     {
         Pages {
             pages: Vec::new(alloc),
-            hints: [0; HINTS],
+            hints: None,
         }
+    }
+
+    /// Each page is one that a process may have, with 4,096 bytes. Does nothing: it is called to know this.
+    pub fn pages_are_sound(&self)
+        ensures { IsSpace self.now }
+    {
+        let _ = &self.pages;
     }
 
     /// How many pages there are.
@@ -116,8 +123,13 @@ impl Pages {
         if self.pages.try_reserve(count as usize).is_err() {
             return Err(PageError::Memory);
         }
+        if make_table(&mut self.hints, *self.pages.allocator()).is_err() {
+            return Err(PageError::Memory);
+        }
         insert_run(&mut self.pages, place, page, count, rights);
-        note_places(&self.pages, &mut self.hints, place);
+        if let Some(table) = &mut self.hints {
+            note_places(&self.pages, table, place);
+        }
         Ok(())
     }
 
@@ -137,7 +149,9 @@ impl Pages {
             return Err(PageError::Unmapped(missing));
         }
         remove_run(&mut self.pages, page, count);
-        note_places(&self.pages, &mut self.hints, 0);
+        if let Some(table) = &mut self.hints {
+            note_places(&self.pages, table, 0);
+        }
         Ok(())
     }
 
@@ -256,10 +270,9 @@ impl Pages {
         ensures { run_space n context.old self.old
             ≡ record { context = context.new; space = self.new; trap = trap_of result } }
     {
-        // Before and after, the pages are ones that a process may have.
-        let _ = &self.pages;
+        self.pages_are_sound();
         let ended = slice(context, self, n);
-        let _ = &self.pages;
+        self.pages_are_sound();
         ended
     }
 }

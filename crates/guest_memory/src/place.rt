@@ -1,14 +1,40 @@
-ghost use Rattle.std.specs.Prelude.{MatchOption, MatchResult, length};
-ghost use Rattle.guest_memory.specs.Pages.{AreInOrder, AreKept, AreNoted, IsFound, IsAbsent, IsGap, IsPlaceOf};
+ghost use Rattle.std.specs.Prelude.{◌≡◌, MatchOption, MatchResult, length};
+ghost use Rattle.guest_memory.specs.Pages.{AreInOrder, IsFound, IsAbsent, IsGap, IsPlaceOf};
+ghost use Rattle.guest_memory.specs.Hints.{AreKept, AreNoted, slot_of};
 
 use crate::page::Page;
+use std::alloc::{AllocError, Global};
 
-/// How many places the table of hints has.
+/// How many slots the table of hints has.
 pub const HINTS: usize = 1024;
 
-/// Where each page was last put: that of page `p` at `p % 1024`. A hint may be out of date or another page's,
-/// so whoever uses one compares the page's number.
-pub type Hints = [u16; HINTS];
+/// Where each page was last put, by its slot; no table before the first page. A hint may be out of date or another
+/// page's, so whoever uses one compares the page's number.
+pub type Hints = Option<Box<[u16; HINTS]>>;
+
+/// The first of the pages that take their slots from the table's end on.
+const MAPPED: u64 = 65_536;
+
+/// The slot of a page. The pages of a program rise from the table's start, and pages mapped from 65,536 on, where a
+/// program seldom has others, fall from its end: so the first of either kind don't meet.
+fn slot(number: u64) -> usize
+    ensures { result ≡ slot_of number }
+{
+    let rising = if number < MAPPED {
+        number
+    } else {
+        u64::MAX - number
+    };
+    (rising % HINTS as u64) as usize
+}
+
+/// Makes a table of hints where there is none yet.
+pub fn make_table(hints: &mut Hints, alloc: Global) -> Result<(), AllocError> {
+    if hints.is_none() {
+        *hints = Some(Box::new(alloc, [0; HINTS])?);
+    }
+    Ok(())
+}
 
 /// The place of a page by binary search, or the place where it would have to be put.
 pub fn search(pages: &[Page], number: u64) -> Result<usize, usize>
@@ -24,9 +50,11 @@ pub fn find(pages: &[Page], hints: &Hints, number: u64) -> Option<usize>
     requires { AreInOrder pages.now }
     ensures { MatchOption result (IsAbsent pages.now number) (IsFound pages.now number) }
 {
-    let hint = hints[(number % HINTS as u64) as usize] as usize;
-    if hint < pages.len() && pages[hint].number == number {
-        return Some(hint);
+    if let Some(table) = hints {
+        let hint = table[slot(number)] as usize;
+        if hint < pages.len() && pages[hint].number == number {
+            return Some(hint);
+        }
     }
     match search(pages, number) {
         Ok(place) => Some(place),
@@ -34,12 +62,12 @@ pub fn find(pages: &[Page], hints: &Hints, number: u64) -> Option<usize>
     }
 }
 
-/// Notes where the pages from the place `from` on are: of those that share a hint, the last. The other hints stay.
-pub fn note_places(pages: &[Page], hints: &mut Hints, from: usize)
-    ensures noted { AreNoted pages.now hints.new from (length pages.now) }
-    ensures kept { AreKept pages.now hints.old hints.new from (length pages.now) }
+/// Notes where the pages from the place `from` on are: of those that share a slot, the last. The other hints stay.
+pub fn note_places(pages: &[Page], table: &mut [u16; HINTS], from: usize)
+    ensures noted { AreNoted pages.now table.new from (length pages.now) }
+    ensures kept { AreKept pages.now table.old table.new from (length pages.now) }
 {
     for place in from..pages.len() {
-        hints[(pages[place].number % HINTS as u64) as usize] = (place % 65536) as u16;
+        table[slot(pages[place].number)] = (place % 65536) as u16;
     }
 }

@@ -1,4 +1,5 @@
-ghost use Rattle.std.specs.Prelude.{◌≡◌, ℕ, ◌+◌, ◌*◌, ◌^◌, ◌<◌, ◌≤◌, IfNone, IfOk, IsTrue, vec_len, vec_capacity};
+ghost use Rattle.std.specs.Prelude.{◌≡◌, ℕ, ◌+◌, ◌*◌, ◌^◌, ◌<◌, ◌≤◌, ◌++◌, IfNone, IfOk, IsTrue, drop, length, take, vec_len, vec_capacity};
+ghost use Rattle.std.specs.List.{slice_rotate_right};
 ghost use Rattle.std.specs.Result.{result_err};
 ghost use Rattle.guest_space.specs.Space.{protected, with_run, without_run};
 ghost use Rattle.guest_space.specs.Run.{first_held, first_missing, is_run};
@@ -68,6 +69,14 @@ pub fn refused_pages(pages: &[Page], hints: &Hints, page: u64, len: usize) -> Op
     }
 }
 
+/// Moves the last `count` pages to a place before them.
+fn move_last(pages: &mut [Page], place: usize, count: usize)
+    requires { place + count ≤ length pages.old }
+    ensures { pages.new ≡ take place pages.old ++ slice_rotate_right (drop place pages.old) count }
+{
+    pages[place..].rotate_right(count);
+}
+
 /// Adds a run of pages of zeros at their place.
 pub fn insert_run(pages: &mut Vec<Page>, place: usize, page: u64, count: u64, rights: u8)
     requires order { AreInOrder pages.old.items }
@@ -84,11 +93,12 @@ pub fn insert_run(pages: &mut Vec<Page>, place: usize, page: u64, count: u64, ri
             rights,
             bytes: [0; PAGE_SIZE],
         };
-        match pages.insert(place + k as usize, blank) {
+        match pages.push(blank) {
             Ok(()) => {}
             Err(_full) => unreachable!(),
         }
     }
+    move_last(pages, place, count as usize);
 }
 
 /// Removes a run of pages.

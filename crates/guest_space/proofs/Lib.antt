@@ -8,3 +8,6 @@ pub mod Bytes
 pub mod Filling
 pub mod Turns
 pub mod RunLaws
+pub mod Regions
+pub mod RegionChanges
+pub mod RegionBytes

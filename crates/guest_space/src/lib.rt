@@ -1,6 +1,10 @@
 //! Definitions of a process's memory as pages of 4,096 bytes with rights.
 #![tactic(auto)]
 
+mod laws;
+
+pub use laws::{one_list_of_regions, regions_after_changes, space_of_regions};
+
 /// Adjacent pages with equal rights: `count` of them, from page `page` on.
 #[derive(Clone, Copy, Debug, PartialEq, Eq)]
 pub struct Extent {

@@ -1,6 +1,6 @@
 use Rattle.std.proofs.Common.{rules, ◌≡◌, ◌≤◌, length, subst, arith, inl, inr}
 use Rattle.std.proofs.lemmas.Bool.{cases_lt}
-use Rattle.guest_memory.specs.Pages.{IsNoted}
+use Rattle.guest_memory.specs.Hints.{IsNoted}
 use Rattle.guest_memory.proofs.Hints.{AreKept-set, AreNoted-set}
 use Rattle.guest_memory.proofs.place.note_places.Goals as goal
 
@@ -12,8 +12,8 @@ loop-place-preserved c =
     record {
       full = search rules;
       none = λ h. omega arith;
-      noted = AreNoted-set pages c.loop-place.hints c.args.from here _ c.loop-place-test.true before.full before.noted;
-      kept = AreKept-set pages c.args.hints.now c.loop-place.hints c.args.from here _ _ c.loop-place.auto.place before.kept;
+      noted = AreNoted-set pages c.loop-place.table c.args.from here c.slot.result _ c.slot.ensures c.loop-place-test.true before.full before.noted;
+      kept = AreKept-set pages c.args.table.now c.loop-place.table c.args.from here c.slot.result _ _ c.slot.ensures c.loop-place.auto.place before.kept;
     }
 
 pub returns : goal.returns
@@ -24,7 +24,7 @@ returns c =
       noted = λ place d low high.
           let within : c.loop-place.place ≤ end = c.loop-place.auto.place-end (omega arith) in
           let e : c.loop-place.place ≡ end = omega arith in
-          subst (λ n. IsNoted c.args.pages.now c.loop-place.hints n place d) e (done.noted place d low (omega arith));
+          subst (λ n. IsNoted c.args.pages.now c.loop-place.table n place d) e (done.noted place d low (omega arith));
       kept = λ slot none. done.kept slot (λ place d low high.
           elim (cases_lt end c.args.from) [
             | inl past ↦ let still = done.none (omega arith) in absurd (omega arith)

@@ -1,27 +1,34 @@
-use Rattle.std.proofs.Common.{◌+◌, ◌-◌, ap, sym, ◌∙◌, subst, arith}
-use Rattle.guest_space.proofs.Runs.{with_run-zero}
-use Rattle.guest_memory.specs.Pages.{AreInOrder, IsGap, space_of}
-use Rattle.guest_memory.proofs.Gaps.{IsGap-same, AreInOrder-next, IsGap-next, space_of-next}
+use Rattle.std.proofs.Common.{◌≡◌, ◌+◌, ◌++◌, ap, sym, ◌∙◌, subst, arith, length, take, drop, length-append}
+use Rattle.std.proofs.lemmas.List.{with_items_is}
+use Rattle.std.specs.List.{slice_rotate_right}
+use Rattle.guest_memory.specs.Pages.{AreInOrder, space_of}
+use Rattle.guest_memory.proofs.Gaps.{IsRunAdded, IsRunAdded-rotated, blank_pages, length-blank_pages}
 use Rattle.guest_memory.proofs.run.insert_run.Goals as goal
+use Rattle.guest_memory.proofs.run.insert_run.Goals.{After-move_last}
 
-pub loop-k-init : goal.loop-k-init
-loop-k-init c = record {
-  order = c.requires.order;
-  gap = IsGap-same c.args.pages.now.items c.args.page c.args.count c.args.place (c.args.page + 0) (c.args.count - 0) (c.args.place + 0) (omega arith) (omega arith) (omega arith) c.requires.gap;
-  after = sym (with_run-zero (space_of c.args.pages.now.items) c.args.page c.args.rights);
-  room = omega arith;
-}
+pub move_last-requires : goal.move_last-requires
+move_last-requires c =
+    let old = c.args.pages.now.items in
+    let new = blank_pages c.args.page c.args.rights c.loop-k.k in
+    let all : length c.deref_mut.result.now ≡ length old + length new =
+    ap length (c.deref_mut.ensures.value ∙ c.loop-k.invariant.added) ∙ length-append old new in
+    let long = length-blank_pages c.args.page c.args.rights c.loop-k.k in
+    let within = c.requires.gap.within in
+    omega arith
 
-pub loop-k-preserved : goal.loop-k-preserved
-loop-k-preserved c =
-    let ps = c.loop-k.pages.items in
-    let i = c.loop-k.invariant in
-    let is = sym c.in-Ok.ensures.items in
-    record {
-      order = subst AreInOrder is (AreInOrder-next ps c.args.page c.args.count c.args.place c.args.rights c.loop-k.k c.requires.run c.requires.rights c.loop-k-test.true i.order i.gap);
-      gap = subst (λ qs. IsGap qs (c.args.page + (c.loop-k.k + 1)) (c.args.count - (c.loop-k.k + 1)) (c.args.place + (c.loop-k.k + 1))) is
-          (IsGap-next ps c.args.page c.args.count c.args.place c.args.rights c.loop-k.k c.requires.run c.requires.rights c.loop-k-test.true i.order i.gap);
-      after = ap space_of c.in-Ok.ensures.items
-          ∙ space_of-next ps c.args.page c.args.count c.args.place c.args.rights c.loop-k.k c.requires.run c.requires.rights c.loop-k-test.true i.order i.gap (space_of c.args.pages.now.items) i.after;
-      room = omega (arith, c.in-Ok.ensures.len, c.in-Ok.ensures.capacity);
-    }
+-- the run stands in its place
+added : (c : After-move_last) → IsRunAdded c.args.pages.now.items c.args.page c.args.count c.args.place c.args.rights c.args.count c.move_last.new.pages
+added c =
+    let all : c.loop-k.k ≡ c.args.count = omega arith in
+    IsRunAdded-rotated c.args.pages.now.items c.args.page c.args.count c.args.place c.args.rights c.requires.run c.requires.rights c.requires.order c.requires.gap c.move_last.new.pages
+    (c.move_last.ensures
+    ∙ ap (λ qs. take c.args.place qs ++ slice_rotate_right (drop c.args.place qs) c.args.count)
+    (c.deref_mut.ensures.value ∙ c.loop-k.invariant.added ∙ ap (λ k. c.args.pages.now.items ++ blank_pages c.args.page c.args.rights k) all))
+
+pub returns-clause-order : goal.returns-clause-order
+returns-clause-order c =
+    subst AreInOrder (sym (with_items_is c.loop-k.pages c.move_last.new.pages (c.move_last.auto.pages ∙ c.deref_mut.ensures.len))) (added (goal.at.returns-clause-order c).After-move_last).order
+
+pub returns-clause-after : goal.returns-clause-after
+returns-clause-after c =
+    ap space_of (with_items_is c.loop-k.pages c.move_last.new.pages (c.move_last.auto.pages ∙ c.deref_mut.ensures.len)) ∙ (added (goal.at.returns-clause-after c).After-move_last).after

@@ -31,6 +31,13 @@ returns-then-is_err-clause-cause c =
     ap (λ o. unwrap_or o Memory)
     (sym (allocate_refusal-none c.args.self.now c.args.page c.args.count c.args.rights (run before) (omega arith) (unheld before) (omega arith)))
 
+pub returns-then-is_err-2-clause-cause : goal.returns-then-is_err-2-clause-cause
+returns-then-is_err-2-clause-cause c =
+    let before = (goal.at.returns-then-is_err-2-clause-cause c).In-Ok in
+    let pages = long before in
+    ap (λ o. unwrap_or o Memory)
+    (sym (allocate_refusal-none c.args.self.now c.args.page c.args.count c.args.rights (run before) (omega arith) (unheld before) (omega arith)))
+
 pub returns-clause-granted : goal.returns-clause-granted
 returns-clause-granted c =
     let before = (goal.at.returns-clause-granted c).In-Ok in
