@@ -4,11 +4,11 @@ use Rattle.std.proofs.Common.{◌≡◌, ℕ, List, [], ◌∷◌, ◌++◌, tak
 use Rattle.elf_loader.specs.declared.ElfError.TheVariants.{Short, Kind, Table, Interp, Segment}
 use Rattle.elf_loader.specs.Fields.{number_at, program_header, e_entry}
 use Rattle.elf_loader.specs.Segments.{any_below, union_below, max_below, covers, meets, segment_byte, touches, segment_rights, is_touched, page_rights, end_page, byte_below, byte_of}
-use Rattle.elf_loader.specs.Refusal.{file_refusal, is_misplaced, leaves_file, meets_earlier, header_refusal, header_refusals, pages, program_refusal, refusal}
+use Rattle.elf_loader.specs.Refusal.{file_refusal, is_misplaced, leaves_file, meets_earlier, lone_refusal, header_refusal, header_refusals, pages, program_refusal, refusal}
 
 -- what computes on a file that is written out
 unfoldable computed : Unit {0}
-unfolding number_at program_header any_below union_below max_below covers meets segment_byte touches segment_rights is_touched page_rights end_page byte_below file_refusal is_misplaced leaves_file meets_earlier header_refusal header_refusals pages program_refusal
+unfolding number_at program_header any_below union_below max_below covers meets segment_byte touches segment_rights is_touched page_rights end_page byte_below file_refusal is_misplaced leaves_file meets_earlier lone_refusal header_refusal header_refusals pages program_refusal
 computed = tt
 
 hello : List ℕ

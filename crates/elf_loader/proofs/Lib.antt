@@ -1,8 +1,9 @@
 pub mod Below
 mod Examples
+pub mod ExtentLists
 pub mod ImageLaws
 pub mod MemoryBytes
-pub mod PageLists
+pub mod PageTables
 pub mod Refusals
-pub mod RunLists
+pub mod Spans
 pub mod TouchedPages

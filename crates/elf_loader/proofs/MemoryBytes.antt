@@ -1,14 +1,15 @@
 -- The bytes of memory: of one segment more, and what a copy from the file leaves.
-use Rattle.std.proofs.Common.{◌≡◌, ℕ, zero, suc, ◌+◌, ◌-◌, ◌<◌, ◌≤◌, min, max, true, false, cond, leb, ltb, List, [], ◌∷◌, map, replicate, length, take, drop, get_or, refl, ap, ap₂, sym, subst, ◌∙◌, ⊎_elim, arith, add-one, length-drop}
+use Rattle.std.proofs.Common.{◌≡◌, ℕ, zero, suc, ◌+◌, ◌-◌, ◌<◌, ◌≤◌, min, max, true, false, cond, leb, ltb, List, [], ◌∷◌, map, replicate, length, take, drop, get_or, ◌++◌, refl, ap, ap₂, sym, subst, ◌∙◌, ⊎_elim, arith, add-one, length-drop}
 use Rattle.std.specs.List.{range_with_len}
 use Rattle.std.proofs.lemmas.Bool.{cond-true, cond-false, and_left, and_right, and_from, and_parts, cases_lt, le-leb, lt-leb, leb-true, lt-ltb, le-ltb, ltb-true, false_from_ne_true, both_ways}
-use Rattle.std.proofs.lemmas.List.{get_or_append_left, get_or-append_right, get_or-take, get_or-drop, length-take-le, ext_get_or}
+use Rattle.std.proofs.lemmas.List.{map-append, take_at, drop_at, get_or_append_left, get_or-append_right, get_or-take, get_or-drop, length-take-le, ext_get_or}
 use Rattle.std.proofs.lemmas.List.FromFn.{length-map-range_with_len, get_or-map-range_with_len}
 use borrow.Rule.Slice.PartMut.{put_mid}
 use Rattle.elf_loader.proofs.Below.{at_last}
 use Rattle.elf_loader.specs.declared.header.ProgramHeader.{ProgramHeader}
 use Rattle.elf_loader.specs.Fields.{program_header}
-use Rattle.elf_loader.specs.Segments.{is_segment, memory_end, meets, covers, segment_byte, byte_below}
+use Rattle.elf_loader.specs.Segments.{is_segment, memory_end, meets, covers, segment_byte, byte_below, byte_of}
+use Rattle.elf_loader.specs.Image.{bytes_at}
 use Rattle.elf_loader.specs.Steps.{holds_file_byte, IsPlaced}
 
 -- An element of a list of which a part was overwritten
@@ -156,6 +157,35 @@ byte_below-covered file address (suc n) i within apart covered =
     (at_last i n within)
 
 -- Lists of bytes
+
+range_with_len-append : (m a n : ℕ) → range_with_len a (m + n) ≡ range_with_len a m ++ range_with_len (a + m) n
+range_with_len-append zero a n = ap₂ (λ x k. range_with_len x k) (omega arith) (omega arith)
+range_with_len-append (suc m) a n =
+    let next : suc m + n ≡ suc (m + n) = omega arith in
+    ap (λ k. range_with_len a k) next
+    ∙ ap (λ xs. a ∷ xs) (range_with_len-append m (a + 1) n ∙ ap (λ x. range_with_len (a + 1) m ++ range_with_len x n) (omega arith))
+
+module _ (file : List ℕ) where
+  pub length-bytes_at : (start size : ℕ) → length (bytes_at file start size) ≡ size
+  unfolding bytes_at
+  length-bytes_at start size = length-map-range_with_len (byte_of file) start size
+
+  pub bytes_at-append : (start m n : ℕ) → bytes_at file start (m + n) ≡ bytes_at file start m ++ bytes_at file (start + m) n
+  unfolding bytes_at
+  bytes_at-append start m n =
+      ap (map (byte_of file)) (range_with_len-append m start n)
+      ∙ map-append (byte_of file) (range_with_len start m) (range_with_len (start + m) n)
+
+  -- a part of the bytes
+  pub bytes_at-part : (start n from size : ℕ) → from + size ≤ n → bytes_at file (start + from) size ≡ take size (drop from (bytes_at file start n))
+  bytes_at-part start n from size within =
+      let rest : ℕ = n - from - size in
+      let split : bytes_at file start n ≡ bytes_at file start from ++ bytes_at file (start + from) (size + rest) =
+      ap (bytes_at file start) (omega arith) ∙ bytes_at-append start from (size + rest) in
+      sym (ap (λ bytes. take size (drop from bytes)) split
+      ∙ (ap (take size) (drop_at (bytes_at file start from) _ from (length-bytes_at start from))
+      ∙ (ap (take size) (bytes_at-append (start + from) size rest)
+      ∙ take_at (bytes_at file (start + from) size) _ size (length-bytes_at (start + from) size))))
 
 pub map-same : (f g : ℕ → ℕ) (xs : List ℕ) → ((x : ℕ) → f x ≡ g x) → map f xs ≡ map g xs
 map-same f g [] same = refl

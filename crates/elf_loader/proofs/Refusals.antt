@@ -1,13 +1,13 @@
 -- The first refusal of the program headers.
-use Rattle.std.proofs.Common.{◌≡◌, ℕ, zero, suc, ◌+◌, ◌-◌, ◌*◌, ◌^◌, ◌<◌, ◌≤◌, ◌%◌, ◌==◌, Bool, true, false, cond, ltb, length, List, Option, Some, None, refl, sym, subst, arith, add-one, ⊎_elim}
-use Rattle.std.proofs.lemmas.Bool.{and_cases, or_parts, and_parts, both_ways, not-false, ltb-false, eqb-true, cond_both}
+use Rattle.std.proofs.Common.{◌≡◌, ℕ, zero, suc, ◌+◌, ◌-◌, ◌*◌, ◌^◌, ◌<◌, ◌≤◌, ◌%◌, ◌==◌, Bool, true, false, cond, ltb, ◌&&◌, length, List, Option, Some, None, refl, sym, subst, arith, ⊎_elim}
+use Rattle.std.proofs.lemmas.Bool.{and_cases, or_parts, and_parts, both_ways, not-false, ltb-false, lt-ltb, le-ltb, eqb-true, cond_both}
 use Rattle.std.proofs.lemmas.Nat.Bits.{bit_at-lt}
 use Rattle.elf_loader.specs.declared.ElfError.{ElfError}
 use Rattle.elf_loader.specs.declared.ElfError.TheVariants.{Interp, Segment, Overlap, Big, Entry}
 use Rattle.elf_loader.specs.Fields.{e_entry, e_phnum, program_header}
 use Rattle.elf_loader.specs.Segments.{is_segment, memory_end, last_page, meets, touches, segment_rights, page_rights, end_page}
 use Rattle.elf_loader.specs.Steps.{IsPlaced}
-use Rattle.elf_loader.specs.Refusal.{or_later, is_misplaced, leaves_file, leaves_pages, meets_earlier, file_refusal, header_refusal, header_refusals, refusal, pages, is_runnable, program_refusal}
+use Rattle.elf_loader.specs.Refusal.{or_later, is_misplaced, leaves_file, leaves_pages, meets_earlier, file_refusal, lone_refusal, header_refusal, header_refusals, refusal, pages, is_runnable, program_refusal}
 use Rattle.elf_loader.proofs.Below.{at_last, any_below-false, max_below-le, union_below-lt}
 
 or_later-none : (first later : Option ElfError) → or_later first later ≡ None → (first ≡ None) × (later ≡ None)
@@ -19,14 +19,6 @@ not_refused true error later none = cc
 not_refused false error later none = (refl, none)
 
 module _ (file : List ℕ) where
-  pub header_refusals-none : header_refusals file 0 ≡ None
-  unfolding header_refusals
-  header_refusals-none = refl
-
-  pub header_refusals-more : (n : ℕ) → header_refusals file n ≡ None → header_refusal file n ≡ None → header_refusals file (n + 1) ≡ None
-  unfolding header_refusals
-  header_refusals-more n before here = rw (add-one, before, here) refl
-
   -- the first refusal is that of all
   pub header_refusals-first : (error : ElfError) (n i : ℕ) → i < n → header_refusals file i ≡ None → header_refusal file i ≡ Some error → header_refusals file n ≡ Some error
   unfolding header_refusals
@@ -47,13 +39,34 @@ module _ (file : List ℕ) where
       (λ (l : i < n). header_refusals-each n i l parts.0)
       (at_last i n below)
 
-  -- a header that gives no refusal
+  pub header_refusals-all : (n : ℕ) → ((i : ℕ) → i < n → header_refusal file i ≡ None) → header_refusals file n ≡ None
+  unfolding header_refusals
+  header_refusals-all zero none = refl
+  header_refusals-all (suc n) none = rw (header_refusals-all n (λ i below. none i (omega arith)), none n (omega arith)) refl
+
+  -- what a header gives
+
+  pub header_refusal-none : (i : ℕ) → lone_refusal file i ≡ None → meets_earlier file i ≡ false → header_refusal file i ≡ None
+  unfolding header_refusal
+  header_refusal-none i lone apart = rw (lone, apart) refl
+
+  pub header_refusal-overlap : (i : ℕ) → lone_refusal file i ≡ None → meets_earlier file i ≡ true → header_refusal file i ≡ Some (Overlap i)
+  unfolding header_refusal
+  header_refusal-overlap i lone meets = rw (lone, meets) refl
+
+  pub header_refusal-lone : (i : ℕ) (error : ElfError) → lone_refusal file i ≡ Some error → header_refusal file i ≡ Some error
+  unfolding header_refusal
+  header_refusal-lone i error lone = rw lone refl
+
+  lone_refusal-placed : (i : ℕ) → lone_refusal file i ≡ None → is_misplaced file (program_header file i) ≡ false
+  unfolding lone_refusal
+  lone_refusal-placed i none = (not_refused _ (Segment i) None (not_refused _ Interp _ none).1).0
+
   header_refusal-parts : (i : ℕ) → header_refusal file i ≡ None → (is_misplaced file (program_header file i) ≡ false) × (meets_earlier file i ≡ false)
   unfolding header_refusal
   header_refusal-parts i none =
-      let second = (not_refused _ Interp _ none).1 in
-      let third = not_refused _ (Segment i) _ second in
-      (third.0, (not_refused _ (Overlap i) None third.1).0)
+      let parts = or_later-none (lone_refusal file i) _ none in
+      (lone_refusal-placed i parts.0, (not_refused _ (Overlap i) None parts.1).0)
 
   pub IsPlaced-from_none : (i : ℕ) → header_refusal file i ≡ None → is_segment (program_header file i) ≡ true → IsPlaced file (program_header file i)
   unfolding is_misplaced leaves_file
@@ -117,5 +130,19 @@ refusal-parts file none =
     let rest = or_later-none (header_refusals file (e_phnum file)) (program_refusal file) first.1 in
     (first.0, rest.0, rest.1)
 
-pub refusal-none : (file : List ℕ) → file_refusal file ≡ None → header_refusals file (e_phnum file) ≡ None → program_refusal file ≡ None → refusal file ≡ None
-refusal-none file first second third = rw (first, second, third) refl
+-- where the file header and the program headers are good, the program decides
+pub refusal-of_program : (file : List ℕ) → file_refusal file ≡ None → header_refusals file (e_phnum file) ≡ None → refusal file ≡ program_refusal file
+refusal-of_program file first second = rw (first, second) refl
+
+module _ (file : List ℕ) where
+  pub program_refusal-big : 1008 < length (pages file) → program_refusal file ≡ Some Big
+  unfolding program_refusal
+  program_refusal-big many = rw (lt-ltb 1008 (length (pages file)) many) refl
+
+  pub program_refusal-entry : length (pages file) ≤ 1008 → false ≡ (e_entry file % 4 == 0 && is_runnable file (e_entry file)) → program_refusal file ≡ Some Entry
+  unfolding program_refusal
+  program_refusal-entry few bad = rw (le-ltb 1008 (length (pages file)) few, sym bad) refl
+
+  pub program_refusal-none : length (pages file) ≤ 1008 → true ≡ (e_entry file % 4 == 0 && is_runnable file (e_entry file)) → program_refusal file ≡ None
+  unfolding program_refusal
+  program_refusal-none few good = rw (le-ltb 1008 (length (pages file)) few, sym good) refl

@@ -48,13 +48,15 @@ is_misplaced file h = is_segment h && (nat_lt h.p_memsz h.p_filesz || (leaves_fi
 unfoldable pub meets_earlier : List ℕ → ℕ → Bool
 meets_earlier file i = any_below (λ j. meets (program_header file i) (program_header file j)) i
 
--- A header of type PT_INTERP (3) asks for an interpreter, which no program may.
-unfoldable pub header_refusal : List ℕ → ℕ → Option ElfError
-header_refusal file i =
+-- What a header gives by itself: one of type PT_INTERP (3) asks for an interpreter, which no program may.
+unfoldable pub lone_refusal : List ℕ → ℕ → Option ElfError
+lone_refusal file i =
     if (program_header file i).p_type == 3 then Some Interp
     else (if is_misplaced file (program_header file i) then Some (Segment i)
-    else (if meets_earlier file i then Some (Overlap i)
-    else None))
+    else None)
+
+unfoldable pub header_refusal : List ℕ → ℕ → Option ElfError
+header_refusal file i = or_later (lone_refusal file i) (if meets_earlier file i then Some (Overlap i) else None)
 
 -- The first n program headers, in their order.
 unfoldable pub header_refusals : List ℕ → ℕ → Option ElfError

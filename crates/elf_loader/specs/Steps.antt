@@ -1,9 +1,12 @@
 -- What the loader's steps find out on the way to a program.
-use Rattle.std.specs.Prelude.{◌≡◌, ◌<◌, ◌≤◌, ℕ, ◌+◌, ◌-◌, ◌*◌, ◌^◌, ◌==◌, nat_lt, nat_le, min, Bool, true, false, ◌&&◌, List, length}
-use Rattle.std.specs.declared.option.Option.{Option}
-use Rattle.std.specs.declared.option.Option.TheVariants.{None, Some}
+use Rattle.std.specs.Prelude.{◌≡◌, ◌<◌, ◌≤◌, ℕ, ◌+◌, ◌-◌, ◌*◌, ◌^◌, nat_lt, nat_le, Bool, true, false, ◌&&◌, ◌||◌, if◌then◌else◌, List, map, length, bit_or, Contains, slice_index_or}
+use Rattle.std.specs.List.{filter, range_with_len}
+use Rattle.guest_space.specs.declared.Extent.{Extent}
 use Rattle.elf_loader.specs.declared.header.ProgramHeader.{ProgramHeader}
-use Rattle.elf_loader.specs.Segments.{memory_end, is_touched, page_rights}
+use Rattle.elf_loader.specs.declared.overlap.Span.{Span}
+use Rattle.elf_loader.specs.declared.pages.Page.{Page}
+use Rattle.elf_loader.specs.Fields.{program_header}
+use Rattle.elf_loader.specs.Segments.{is_segment, memory_end}
 
 -- The address holds a byte of the file.
 abbrev pub holds_file_byte : ProgramHeader → ℕ → Bool
@@ -16,16 +19,36 @@ pub record IsPlaced (file : List ℕ) (h : ProgramHeader) : Type 0 where
   pub above : 4096 ≤ h.p_vaddr
   pub below : memory_end h ≤ (2 ^ 26 - 16) * 4096
 
--- The least page from one on that passes the test, if there is one.
-abbrev pub IsNext : (ℕ → Bool) → ℕ → Option ℕ → Type 0
-IsNext test from None = (page : ℕ) → from ≤ page → test page ≡ false
-IsNext test from (Some next) = (from ≤ next) × (test next ≡ true) × ((page : ℕ) → from ≤ page → page < next → test page ≡ false)
+-- The span of the segment of that number.
+abbrev pub span_of : List ℕ → ℕ → Span
+span_of file i = record { number = i; start = (program_header file i).p_vaddr; end = memory_end (program_header file i) }
 
--- The lesser of a page, if there is one, and another.
-abbrev pub lesser : Option ℕ → ℕ → ℕ
-lesser None page = page
-lesser (Some least) page = min least page
+-- The spans have each segment of the first n headers.
+abbrev pub HasSpans : List ℕ → ℕ → List Span → Type 0
+HasSpans file n spans = (i : ℕ) → i < n → is_segment (program_header file i) ≡ true → Contains spans (span_of file i)
 
--- The page is touched, and has exactly these rights.
-unfoldable pub has_rights : List ℕ → ℕ → ℕ → Bool
-has_rights file rights page = is_touched file page && page_rights file page == rights
+-- Of the spans of the first n headers, each ends before any later one begins.
+abbrev pub LieApart : ℕ → List Span → Type 0
+LieApart n spans =
+    (i j : ℕ) (d : Span) → i < j → j < length spans → (slice_index_or spans i d).number < n → (slice_index_or spans j d).number < n
+    → (slice_index_or spans i d).end ≤ (slice_index_or spans j d).start
+
+-- The pages below n that are held, each with its rights.
+unfoldable pub table_of : (ℕ → Bool) → (ℕ → ℕ) → ℕ → List Page
+table_of held rights n = map (λ q. record { number = q; rights = rights q }) (filter held (range_with_len 0 n))
+
+-- In the new table the pages that pass the test, which are below the bound, have further rights.
+abbrev pub Adds : (ℕ → Bool) → ℕ → ℕ → List Page → List Page → Type 0
+Adds more rights bound old new =
+    (held : ℕ → Bool) (rights_of : ℕ → ℕ) (n : ℕ) → bound ≤ n → ((q : ℕ) → held q ≡ false → rights_of q ≡ 0) → old ≡ table_of held rights_of n
+    → new ≡ table_of (λ q. held q || more q) (λ q. bit_or (rights_of q) (if more q then rights else 0)) n
+
+-- With the pages that pass the test, which are below the bound, a table has more than 1,008.
+abbrev pub Overflows : (ℕ → Bool) → ℕ → List Page → Type 0
+Overflows more bound old =
+    (held : ℕ → Bool) (rights_of : ℕ → ℕ) (n : ℕ) → bound ≤ n → ((q : ℕ) → held q ≡ false → rights_of q ≡ 0) → old ≡ table_of held rights_of n
+    → 1008 < length (filter (λ q. held q || more q) (range_with_len 0 n))
+
+-- A page as a run.
+abbrev pub extent_of_page : Page → Extent
+extent_of_page page = record { page = page.number; count = 1; rights = page.rights }

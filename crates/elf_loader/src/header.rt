@@ -71,15 +71,16 @@ impl ProgramHeader {
 
     /// Writes the bytes that it has in the file to their places in memory from the address `start` on.
     pub fn copy_into(&self, file: &[u8], start: u64, memory: &mut [u8])
-        requires placed { IsPlaced file.now self.now }
-        requires small { start + length memory.old ≤ 2 ^ 38 }
+        requires { IsPlaced file.now self.now }
         ensures { (k : ℕ) → k < length memory.old → slice_index memory.new k
             ≡ (if holds_file_byte self.now (start + k)
             then slice_index file.now (self.now.p_offset + (start + k - self.now.p_vaddr))
             else slice_index memory.old k) }
     {
         let from = start.max(self.p_vaddr);
-        let end = (start + memory.len() as u64).min(self.p_vaddr + self.p_filesz);
+        let end = start
+            .saturating_add(memory.len() as u64)
+            .min(self.p_vaddr + self.p_filesz);
         if from < end {
             let len = (end - from) as usize;
             let source = (self.p_offset + (from - self.p_vaddr)) as usize;

@@ -1,9 +1,9 @@
 //! Executable files of ELF-64 for RISC-V, as runs of pages of memory.
 #![tactic(auto)]
 
-ghost use Rattle.std.specs.Prelude.{◌≡◌, IfOk, None, OnOk};
+ghost use Rattle.std.specs.Prelude.{◌≡◌, IfOk, None, OnOk, length};
 ghost use Rattle.elf_loader.specs.Refusal.{refusal};
-ghost use Rattle.elf_loader.specs.Image.{FitsProcess, IsImage, Tells, loaded};
+ghost use Rattle.elf_loader.specs.Image.{AreWhole, FitsProcess, IsImage, IsLayout, Tells, bytes_at, laid_out, loaded, without_bytes};
 
 use crate::file::ElfFile;
 use crate::header::PAGE_SIZE;
@@ -16,9 +16,12 @@ mod file;
 mod header;
 mod image;
 mod laws;
+mod overlap;
 mod pages;
+mod runs;
 
-pub use laws::{bytes_of_segments, one_image, rights_of_segments};
+pub use laws::{bytes_of_segments, one_image, pieces_of_runs, rights_of_segments};
+pub use runs::Layout;
 
 /// What a program asks for in memory.
 #[derive(Debug, Drop)]
@@ -115,24 +118,58 @@ impl From<AllocError> for LoadError {
     }
 }
 
-/// The program of an ELF file: its runs of pages are as long as can be, rise, and hold the bytes and the rights
-/// of the segments. A file that isn't one gives the first refusal that fits, in the order of `ElfError`, and
-/// never `Memory`.
+/// Where the program of an ELF file lies: its runs of pages are as long as can be, rise, and have the rights of
+/// the segments. A file that isn't one gives the first refusal that fits, in the order of `ElfError`, and never
+/// `Memory`.
+pub fn layout(alloc: Global, bytes: &[u8]) -> Result<Layout, LoadError>
+    ensures exact { Tells result (laid_out bytes.now) }
+    ensures accepted { OnOk result (refusal bytes.now ≡ None) }
+    ensures layout { IfOk result (IsLayout bytes.now) }
+    ensures fits { IfOk result FitsProcess }
+{
+    let file = ElfFile::open(bytes)?;
+    file.check_headers(alloc)?;
+    let table = file.pages()?;
+    let pages = table.as_slice();
+    if !file.has_entry() {
+        return Err(LoadError::Refused(ElfError::Entry));
+    }
+    let end = file.end_page();
+    let runs = runs::runs(alloc, pages)?;
+    Ok(Layout {
+        entry: file.entry(),
+        runs,
+        end: PAGE_SIZE * end,
+    })
+}
+
+/// Fills `memory` with what the program of an ELF file has from the address `start` on: the bytes of the
+/// segments, and 0 elsewhere. Takes no memory.
+pub fn piece(bytes: &[u8], start: u64, memory: &mut [u8])
+    requires { refusal bytes.now ≡ None }
+    ensures { memory.new ≡ bytes_at bytes.now start (length memory.old) }
+{
+    let Ok(file) = ElfFile::open(bytes) else {
+        unreachable!()
+    };
+    file.fill(start, memory);
+}
+
+/// The program of an ELF file: the runs of its layout, with the bytes of the segments. A file that isn't one
+/// gives the first refusal that fits, in the order of `ElfError`, and never `Memory`.
 pub fn load(alloc: Global, bytes: &[u8]) -> Result<Program, LoadError>
     ensures exact { Tells result (loaded bytes.now) }
     ensures accepted { OnOk result (refusal bytes.now ≡ None) }
     ensures image { IfOk result (IsImage bytes.now) }
-    ensures fits { IfOk result FitsProcess }
+    ensures fits { IfOk result (λ program. FitsProcess (without_bytes program)) }
+    ensures whole { IfOk result (λ program. AreWhole program.runs) }
 {
-    let file = ElfFile::open(bytes)?;
-    file.check_headers()?;
-    file.check_program()?;
-    let end = file.end_page();
-    let runs = file.runs(alloc, end)?;
+    let layout = layout(alloc, bytes)?;
+    let runs = image::runs(alloc, bytes, layout.runs.as_slice())?;
     Ok(Program {
-        entry: file.entry(),
+        entry: layout.entry,
         runs,
-        end: PAGE_SIZE * end,
+        end: layout.end,
     })
 }
 

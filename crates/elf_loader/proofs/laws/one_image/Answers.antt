@@ -1,9 +1,14 @@
-use Rattle.elf_loader.proofs.ImageLaws.{IsImage-program_of, FitsProcess-program_of}
-use Rattle.elf_loader.proofs.Refusals.{refusal-parts}
+use Rattle.elf_loader.proofs.ImageLaws.{IsImage-program_of, IsLayout-layout_of, FitsProcess-accepted, without_bytes-program_of}
 use Rattle.elf_loader.proofs.laws.one_image.Goals as goal
 
 pub returns-clause-image : goal.returns-clause-image
 returns-clause-image c = IsImage-program_of
 
+pub returns-clause-layout : goal.returns-clause-layout
+returns-clause-layout c = IsLayout-layout_of
+
+pub returns-clause-same : goal.returns-clause-same
+returns-clause-same c = without_bytes-program_of
+
 pub returns-clause-fits : goal.returns-clause-fits
-returns-clause-fits c = λ file none. let parts = refusal-parts file none in FitsProcess-program_of file parts.1 parts.2
+returns-clause-fits c = FitsProcess-accepted

@@ -1,0 +1,11 @@
+use Rattle.std.proofs.Common.{◌≡◌, ℕ, ◌<◌, ◌≤◌, true, false}
+use Rattle.elf_loader.specs.Fields.{program_header}
+use Rattle.elf_loader.specs.Segments.{is_segment, memory_end}
+use Rattle.elf_loader.specs.Refusal.{meets_earlier}
+use Rattle.elf_loader.proofs.file.ElfFile.rises.Given as goal
+
+abbrev pub invariant-loop-i : goal.invariant-loop-i
+invariant-loop-i l = record {
+  ends : (j : ℕ) → j < l.i → is_segment (program_header l.self.bytes.now j) ≡ true → memory_end (program_header l.self.bytes.now j) ≤ l.end;
+  apart : (j : ℕ) → j < l.i → meets_earlier l.self.bytes.now j ≡ false;
+}
