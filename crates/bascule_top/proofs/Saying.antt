@@ -24,7 +24,7 @@ use Rattle.libos_state.specs.Records.{base}
 use Rattle.libos_state.specs.Meaning.{meaning, meant, meant_idle}
 use Rattle.libos_state.specs.Fits.{Fits, exit_code}
 use Rattle.libos_state.proofs.Beginning.{CanBoot, boot_fits}
-use Rattle.abi_calls.specs.World.{WhereTold, world, whole}
+use Rattle.abi_calls.specs.World.{WhereTold, world_of, whole}
 use Rattle.turn_engine.specs.Serves.{Serves, IsUp}
 use Rattle.turn_engine.specs.Halts.{Halts, HaltsRun, Fronts, StartsQuietly}
 use Rattle.turn_engine.proofs.Steps.{meaning_up}
@@ -54,16 +54,16 @@ no_contents = record { files = empty; input = []; output = []; errors = [] }
 -- the library OS that begins fits a host that was not used
 pub start_fits : (name : List ℕ) (os : LibOs) (o : Objects) (answered : ℕ) → is_name name ≡ true → IsFreshWorld o answered → IsSound o → os ≡ booting name [] start_settings → Fits os o
 start_fits name os o answered named fresh sound is =
-    subst (λ (s : LibOs). Fits s o) (sym is) (boot_fits name [] start_settings (world o no_contents) answered (can_start name named) fresh sound).fits
+    subst (λ (s : LibOs). Fits s o) (sym is) (boot_fits name [] start_settings (world_of o no_contents) answered (can_start name named) fresh sound).fits
 
 -- a start that is served to its end stands for the machine's start
 pub start_means : (name : List ℕ) (os os' : LibOs) (o o' : Objects) (t t' : Told) (answered : ℕ)
     → is_name name ≡ true → IsFreshWorld o answered → IsSound o → os ≡ booting name [] start_settings → Serves os o t os' o' t'
-    → WhereTold t t' (λ x y. meaning os' (world o' y) ≡ boot start_settings x (start_job name))
+    → WhereTold t t' (λ x y. meaning os' (world_of o' y) ≡ boot start_settings x (start_job name))
 start_means name os os' o o' t t' answered named fresh sound is serves = record {
   holds = λ x e.
       let a = serves.means.holds x e in
-      (a.0, a.1, a.2 ∙ ap (λ (s : LibOs). meaning s (world o x)) is ∙ (boot_fits name [] start_settings (world o x) answered (can_start name named) fresh sound).means);
+      (a.0, a.1, a.2 ∙ ap (λ (s : LibOs). meaning s (world_of o x)) is ∙ (boot_fits name [] start_settings (world_of o x) answered (can_start name named) fresh sound).means);
 }
 
 runs_same : (m n : Mono) → Runs m ≡ Runs n → m ≡ n
@@ -71,18 +71,18 @@ runs_same m n e = cc
 
 -- the run's last state is the world's
 pub run_says : (name : List ℕ) (end : End) (os' os'' : LibOs) (o' o'' : Objects) (t t' t'' : Told)
-    → WhereTold t t' (λ x y. meaning os' (world o' y) ≡ boot start_settings x (start_job name)) → IsUp os' o'
+    → WhereTold t t' (λ x y. meaning os' (world_of o' y) ≡ boot start_settings x (start_job name)) → IsUp os' o'
     → EndsRun TURNS os' o' t' os'' o'' t'' → end_by (exit_code os'') ≡ end → WhereTold t t'' (RunsTo name end o'')
 run_says name end os' os'' o' o'' t t' t'' start up run is = record {
   holds = λ x e.
       let a = start.holds x e in
       let b = run.means.holds a.0 a.1 in
-      let booted : boot start_settings x (start_job name) ≡ Runs (base os' (world o' a.0)) = sym a.2 ∙ meaning_up os' o' (world o' a.0) up in
-      let last : base os'' (world o'' b.0) ≡ (run_of TURNS (base os' (world o' a.0))).last = sym (ap (λ (r : Ending). r.last) b.2) in (
+      let booted : boot start_settings x (start_job name) ≡ Runs (base os' (world_of o' a.0)) = sym a.2 ∙ meaning_up os' o' (world_of o' a.0) up in
+      let last : base os'' (world_of o'' b.0) ≡ (run_of TURNS (base os' (world_of o' a.0))).last = sym (ap (λ (r : Ending). r.last) b.2) in (
         b.0,
         b.1,
         record {
-          machine = base os' (world o' a.0);
+          machine = base os' (world_of o' a.0);
           booted = booted;
           ends = ap (λ (r : Ending). r.end) b.2 ∙ is;
           agrees = record { records = os''; fit = run.up; same = last };
@@ -124,7 +124,7 @@ start_quiet name os os' t t' is quiet = quiet.quiet (going_start os (ap (λ (s :
 
 -- there is no file of the name
 pub none_says : (name : List ℕ) (os' : LibOs) (o' : Objects) (t t' : Told)
-    → WhereTold t t' (λ x y. meaning os' (world o' y) ≡ boot start_settings x (start_job name)) → os'.cont ≡ None → os'.boot ≡ boots.NoProgram
+    → WhereTold t t' (λ x y. meaning os' (world_of o' y) ≡ boot start_settings x (start_job name)) → os'.cont ≡ None → os'.boot ≡ boots.NoProgram
     → WhereTold t t' (λ x y. y ≡ x) → WhereTold t t' (λ x y. (file_of x.files name ≡ None) × (y ≡ x))
 none_says name os' o' t t' start none is quiet = record {
   holds = λ x e.
@@ -133,7 +133,7 @@ none_says name os' o' t t' start none is quiet = record {
         a.0,
         a.1,
         (
-          no_file (blank start_settings (record { turns = 0; pick = 0; random = 0 }) x) (name ∷ []) (file_of x.files name) (sym a.2 ∙ meant_none os' (world o' a.0) os'.cont boots.NoProgram none is),
+          no_file (blank start_settings (record { turns = 0; pick = 0; random = 0 }) x) (name ∷ []) (file_of x.files name) (sym a.2 ∙ meant_none os' (world_of o' a.0) os'.cont boots.NoProgram none is),
           same_contents (whole t') x a.0 q.0 a.1 q.1 q.2,
         ),
       );
@@ -141,7 +141,7 @@ none_says name os' o' t t' start none is quiet = record {
 
 -- the outcome names the program that there isn't
 pub no_program_says : (outcome : Outcome) (name : List ℕ) (os' : LibOs) (o' : Objects) (t t' : Told)
-    → WhereTold t t' (λ x y. meaning os' (world o' y) ≡ boot start_settings x (start_job name)) → os'.cont ≡ None → os'.boot ≡ boots.NoProgram
+    → WhereTold t t' (λ x y. meaning os' (world_of o' y) ≡ boot start_settings x (start_job name)) → os'.cont ≡ None → os'.boot ≡ boots.NoProgram
     → WhereTold t t' (λ x y. y ≡ x) → outcome ≡ outcomes.NoProgram name → Says outcome name t o' t'
 no_program_says outcome name os' o' t t' start none is quiet named =
     subst (λ (u : Outcome). Says u name t o' t') (sym named) (refl, none_says name os' o' t t' start none is quiet)
@@ -153,7 +153,7 @@ bound_turns o o' o'' answered fresh same after = after ∙ ap (λ n. (n + TURNS)
 
 -- the file is no program
 pub bad_says : (name : List ℕ) (os' : LibOs) (o' : Objects) (t t' : Told) (cause : ProgramRefusal)
-    → WhereTold t t' (λ x y. meaning os' (world o' y) ≡ boot start_settings x (start_job name)) → os'.cont ≡ None → os'.boot ≡ boots.BadProgram cause
+    → WhereTold t t' (λ x y. meaning os' (world_of o' y) ≡ boot start_settings x (start_job name)) → os'.cont ≡ None → os'.boot ≡ boots.BadProgram cause
     → WhereTold t t' (λ x y. y ≡ x) → WhereTold t t' (λ x y. IsNoProgram name x × (y ≡ x))
 bad_says name os' o' t t' cause start none is quiet = record {
   holds = λ x e.
@@ -162,7 +162,7 @@ bad_says name os' o' t t' cause start none is quiet = record {
         a.0,
         a.1,
         (
-          bad_file name x (blank start_settings (record { turns = 0; pick = 0; random = 0 }) x) (name ∷ []) (file_of x.files name) refl (sym a.2 ∙ meant_none os' (world o' a.0) os'.cont (boots.BadProgram cause) none is),
+          bad_file name x (blank start_settings (record { turns = 0; pick = 0; random = 0 }) x) (name ∷ []) (file_of x.files name) refl (sym a.2 ∙ meant_none os' (world_of o' a.0) os'.cont (boots.BadProgram cause) none is),
           same_contents (whole t') x a.0 q.0 a.1 q.1 q.2,
         ),
       );
@@ -170,10 +170,25 @@ bad_says name os' o' t t' cause start none is quiet = record {
 
 -- ---- a start that is given up
 
-fronts_stops : (s : Started) (x y : Contents) → Fronts s x y → StopsAt s x y
-fronts_stops (Runs m) x y f = record { turns = 0; within = omega arith; fronts = f }
-fronts_stops NoProgram x y f = f
-fronts_stops BadProgram x y f = f
+-- a start leaves the files
+begun_files : (m m' : Mono) (args : List (List ℕ)) (p : Option Program) → begun_from m args p ≡ Runs m' → m'.files ≡ m.files
+begun_files m m' args None is = absurd (cc)
+begun_files m m' args (Some p) is = sym (ap (λ (u : Mono). u.files) (runs_same _ m' is))
+
+started_files : (m m' : Mono) (args : List (List ℕ)) (file : Option (List ℕ)) → started_if m args file ≡ Runs m' → m'.files ≡ m.files
+started_files m m' args None is = absurd (cc)
+started_files m m' args (Some file) is = begun_files m m' args (program_of file) is
+
+fronts_stops : (name : List ℕ) (x y : Contents) (s : Started) → boot start_settings x (start_job name) ≡ s → Fronts s x y → StopsAt s x y
+fronts_stops name x y (Runs m) is f =
+    let same : m.files ≡ x.files = started_files (blank start_settings (record { turns = 0; pick = 0; random = 0 }) x) m (name ∷ []) (file_of x.files name) is in
+    record { turns = 0; within = omega arith; output = f.output; errors = f.errors; files = files_at_first x.files y.files m.files same f.files }
+  where
+    files_at_first : {X : Type 0} (x y m : X) → m ≡ x → (y ≡ x) ⊎ (y ≡ m) → (y ≡ m) ⊎ (y ≡ m)
+    files_at_first x y m same (inl p) = inl (p ∙ sym same)
+    files_at_first x y m same (inr p) = inr p
+fronts_stops name x y NoProgram is f = f
+fronts_stops name x y BadProgram is f = f
 
 -- while it is served
 pub halts_start : (name : List ℕ) (os : LibOs) (o : Objects) (t t' : Told) (answered : ℕ)
@@ -181,8 +196,8 @@ pub halts_start : (name : List ℕ) (os : LibOs) (o : Objects) (t t' : Told) (an
 halts_start name os o t t' answered named fresh sound is halts = record {
   holds = λ x e.
       let a = halts.halts.holds x e in
-      let begins : meaning os (world o x) ≡ boot start_settings x (start_job name) = ap (λ (s : LibOs). meaning s (world o x)) is ∙ (boot_fits name [] start_settings (world o x) answered (can_start name named) fresh sound).means in
-      (a.0, a.1, fronts_stops (boot start_settings x (start_job name)) x a.0 (subst (λ s. Fronts s x a.0) begins a.2));
+      let begins : meaning os (world_of o x) ≡ boot start_settings x (start_job name) = ap (λ (s : LibOs). meaning s (world_of o x)) is ∙ (boot_fits name [] start_settings (world_of o x) answered (can_start name named) fresh sound).means in
+      (a.0, a.1, fronts_stops name x a.0 (boot start_settings x (start_job name)) refl (subst (λ s. Fronts s x a.0) begins a.2));
 }
 
 -- before it begins
@@ -192,7 +207,7 @@ stops_first name o t answered named fresh sound =
 
 -- in its run
 pub halts_going : (name : List ℕ) (os' : LibOs) (o' : Objects) (t t' t'' : Told)
-    → WhereTold t t' (λ x y. meaning os' (world o' y) ≡ boot start_settings x (start_job name)) → IsUp os' o' → HaltsRun TURNS os' o' t' t'' → Stops name t t''
+    → WhereTold t t' (λ x y. meaning os' (world_of o' y) ≡ boot start_settings x (start_job name)) → IsUp os' o' → HaltsRun TURNS os' o' t' t'' → Stops name t t''
 halts_going name os' o' t t' t'' start up halts =
     told_then t t' t'' _ _ (λ x z. StopsAt (boot start_settings x (start_job name)) x z)
-    (λ x y z p q. subst (λ s. StopsAt s x z) (sym (meaning_up os' o' (world o' y) up) ∙ p) q) start halts.halts
+    (λ x y z p q. subst (λ s. StopsAt s x z) (sym (meaning_up os' o' (world_of o' y) up) ∙ p) q) start halts.halts

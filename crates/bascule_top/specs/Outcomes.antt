@@ -13,7 +13,7 @@ use Rattle.mono_model.specs.Turns as mono
 use Rattle.mono_model.specs.Turns.{End, run_of}
 use Rattle.libos_state.specs.declared.state.LibOs.{LibOs}
 use Rattle.libos_state.specs.Records.{base}
-use Rattle.abi_calls.specs.World.{WhereTold, world}
+use Rattle.abi_calls.specs.World.{WhereTold, world_of}
 use Rattle.turn_engine.specs.Serves.{IsUp}
 use Rattle.turn_engine.specs.Halts.{IsUnwritten, FrontsRun}
 use Rattle.bascule_top.specs.declared.outcome.Outcome.{Outcome}
@@ -25,7 +25,7 @@ use Rattle.bascule_top.specs.Commands.{Command, Start, Asm, TURNS, start_setting
 pub record Agrees (o : Objects) (y : Contents) (m : Mono) : Type 0 where
   pub records : LibOs
   pub fit : IsUp records o
-  pub same : base records (world o y) ≡ m
+  pub same : base records (world_of o y) ≡ m
 
 -- The program's start over these contents is a machine whose run of so many turns ends so, and the contents and the
 -- world after are those of its last state.

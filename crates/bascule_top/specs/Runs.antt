@@ -8,7 +8,7 @@ use Rattle.mono_model.specs.Turns.{End, Exited, Bound, run_of}
 use Rattle.libos_state.specs.declared.state.LibOs.{LibOs}
 use Rattle.libos_state.specs.Records.{base}
 use Rattle.libos_state.specs.Fits.{exit_code}
-use Rattle.abi_calls.specs.World.{WhereTold, world}
+use Rattle.abi_calls.specs.World.{WhereTold, world_of}
 use Rattle.turn_engine.specs.Serves.{IsUp}
 
 -- How a run of so many turns ends, by the exit code.
@@ -20,10 +20,10 @@ end_by None = Bound
 pub record GoesOn (made left : ℕ) (os : LibOs) (o : Objects) (told : Told) (os' : LibOs) (o' : Objects) (told' : Told) : Type 0 where
   pub up : IsUp os' o'
   pub turns : o'.positions.turns ≡ (o.positions.turns + made) % 2 ^ 64
-  pub means : WhereTold told told' (λ x y. run_of (made + left) (base os (world o x)) ≡ run_of left (base os' (world o' y)))
+  pub means : WhereTold told told' (λ x y. run_of (made + left) (base os (world_of o x)) ≡ run_of left (base os' (world_of o' y)))
 
 -- A run of at most n turns has ended: process 1 has exited, or all the turns were made.
 pub record EndsRun (n : ℕ) (os : LibOs) (o : Objects) (told : Told) (os' : LibOs) (o' : Objects) (told' : Told) : Type 0 where
   pub up : IsUp os' o'
   pub bound : exit_code os' ≡ None → o'.positions.turns ≡ (o.positions.turns + n) % 2 ^ 64
-  pub means : WhereTold told told' (λ x y. run_of n (base os (world o x)) ≡ record { end = end_by (exit_code os'); last = base os' (world o' y) })
+  pub means : WhereTold told told' (λ x y. run_of n (base os (world_of o x)) ≡ record { end = end_by (exit_code os'); last = base os' (world_of o' y) })

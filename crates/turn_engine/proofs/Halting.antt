@@ -1,57 +1,37 @@
 -- A service, a turn or a run that is given up.
-use Rattle.std.proofs.Common.{◌≡◌, ℕ, suc, ◌+◌, ◌≤◌, true, List, [], ◌++◌, take, drop, refl, sym, ◌∙◌, ap, subst, append-nil, arith}
-use Rattle.std.proofs.Math.Seq.{take-nil}
+use Rattle.std.proofs.Common.{◌≡◌, ◌⊎◌, inl, inr, ℕ, suc, ◌+◌, ◌-◌, ◌≤◌, List, [], ◌∷◌, ◌++◌, length, drop, refl, sym, ◌∙◌, ap, subst, append-nil, append_assoc, length-append, arith}
 use Rattle.std.specs.declared.option.Option.{Option}
 use Rattle.std.specs.declared.option.Option.TheVariants.{None, Some}
 use Rattle.bas_edge.specs.Files.{Files}
 use Rattle.abi_calls.specs.declared.call.Call.{Call}
-use Rattle.abi_calls.specs.declared.call.Call.TheVariants.{StreamRead, StreamWrite}
-use Rattle.bas_names.specs.declared.StreamName.{StreamName}
-use Rattle.bas_names.specs.declared.StreamName.TheVariants.{File, ConIn, ConOut, ConErr}
 use Rattle.abi_calls.specs.declared.reply.Reply.{Reply}
 use Rattle.abi_calls.specs.declared.threads.Turned.TheVariants.{Exception}
 use Rattle.abi_calls.specs.declared.threads.Upcall.{Upcall}
-use Rattle.abi_calls.specs.Objects.{Objects, object_at}
-use Rattle.abi_calls.specs.World.{Contents, Told}
-use Rattle.abi_calls.specs.Streams.{stream_of}
-use Rattle.abi_calls.specs.Abi.{Answers, Leaves, gained, lost, output_of, errors_of, input_of, for_output, for_errors, from_input, is_file}
+use Rattle.abi_calls.specs.Objects.{Objects}
+use Rattle.abi_calls.specs.World.{Contents, Told, WhereTold, world_of, whole, whole_of}
+use Rattle.abi_calls.specs.Abi.{Answers}
+use Rattle.abi_calls.specs.Failing.{Leaves, Nothing, Part, IsPartDone, with_text, without_front}
 use Rattle.abi_calls.specs.Sound.{IsSound}
-use Rattle.abi_calls.specs.Turn.{turned}
-use Rattle.mono_model.specs.Machine.{register}
+use Rattle.abi_calls.specs.Turn.{world_turn}
+use Rattle.mono_model.specs.Machine.{Mono}
 use Rattle.mono_model.specs.Turns.{turn_of}
 use Rattle.mono_model.specs.Starting.{Started, Runs, NoProgram, BadProgram}
-use Rattle.libos_state.specs.declared.cont.Cont.{Cont}
-use Rattle.libos_state.specs.declared.cont.Stage.{Stage}
-use Rattle.libos_state.specs.declared.cont.Stage.TheVariants.{WriteStream, Configure, OpenConsole, OpenProgram, ProgramLength, ReadProgram, CloseProgram, CreateProcess}
-use Rattle.libos_state.specs.declared.state.Boot.TheVariants.{Going}
 use Rattle.libos_state.specs.declared.state.LibOs.{LibOs}
-use Rattle.libos_state.specs.Records.{base, description_behind}
-use Rattle.libos_state.specs.Pending.{pending, asked, asked_by, upcall_in, wanted_stream}
+use Rattle.libos_state.specs.Records.{base}
+use Rattle.libos_state.specs.Pending.{pending}
 use Rattle.libos_state.specs.Answered.{answered}
-use Rattle.libos_state.specs.Meaning.{meaning, meant, meant_at, meant_idle, stream_in, stream_described, caller_in}
-use Rattle.libos_state.specs.Fits.{Fits, FitsCont, FitsStage, FitsWriteBytes, FitsIdle, FitsUp, exit_code}
-use Rattle.libos_state.specs.Laws.{EntersTurn}
-use Rattle.libos_state.proofs.Writing.{stream_there}
+use Rattle.libos_state.specs.Meaning.{meaning}
+use Rattle.libos_state.specs.Fits.{Fits, FitsIdle, FitsUp, exit_code}
+use Rattle.libos_state.specs.Laws.{AsksTaken, EntersTurn}
 use Rattle.libos_state.proofs.Stages.{answered_keeps}
-use Rattle.abi_calls.specs.World.{WhereTold, world, whole, whole_of}
 use Rattle.turn_engine.specs.Serves.{Serves, IsUp, MakesTurn}
-use Rattle.turn_engine.specs.Halts.{IsFront, FrontsMachine, IsUnwritten, Fronts, Halts, HaltsTurn, HaltsRun, FrontsRun, MakesTurns, after_turns, ServesNoTrap, StartsQuietly}
+use Rattle.turn_engine.specs.Halts.{IsFront, FrontsMachine, IsUnwritten, Fronts, Halts, HaltsTurn, HaltsRun, FrontsRun, MakesTurns, after_turns}
 use Rattle.turn_engine.proofs.Telling.{told_same, told_then}
+use Rattle.turn_engine.proofs.Serving.{stands_then}
 use Rattle.turn_engine.proofs.Steps.{answer_serves}
-use Rattle.turn_engine.proofs.Quiet.{IsQuiet}
-use Rattle.turn_engine.proofs.Starts.{quiet_asked, quiet_step, going_start}
-use Rattle.turn_engine.proofs.Fronts.{front_take, fronts_same, fronts_write, front_turn, fronts_stage, fronts_now}
+use Rattle.turn_engine.proofs.Fronts.{begins_same, begins_turn, fronts_now}
 
--- ---- a call that fails
-
--- The contents that a call which fails leaves.
-abbrev left_by : Objects → Call → Contents → ℕ → ℕ → ℕ → Contents
-left_by o call x put noted taken = record {
-  files = x.files;
-  input = drop taken x.input;
-  output = x.output ++ take put (output_of o call);
-  errors = x.errors ++ take noted (errors_of o call);
-}
+-- ---- nothing, or a part, of what is on the way
 
 -- All parts are told.
 record AllTold (t : Told) (x : Contents) : Type 0 where
@@ -75,163 +55,128 @@ all_told (Some f) (Some i) None e x told = absurd (cc)
 all_told (Some f) None o e x told = absurd (cc)
 all_told None i o e x told = absurd (cc)
 
-leaves_told : (o : Objects) (call : Call) (t t' : Told) (x : Contents) (l : Leaves o call t t') → whole t ≡ Some x
-    → whole t' ≡ Some (left_by o call x l.put l.noted l.taken)
-leaves_told o call t t' x l told =
-    let parts = all_told t.files t.input t.output t.errors x told in
-    let files : t'.files ≡ Some x.files = l.files ∙ parts.files in
-    let input : t'.input ≡ Some (drop l.taken x.input) = l.input ∙ ap (λ a. lost a l.taken) parts.input in
-    let output : t'.output ≡ Some (x.output ++ take l.put (output_of o call)) = l.output ∙ ap (λ a. gained a (take l.put (output_of o call))) parts.output in
-    let errors : t'.errors ≡ Some (x.errors ++ take l.noted (errors_of o call)) = l.errors ∙ ap (λ a. gained a (take l.noted (errors_of o call))) parts.errors in
-    λ k. whole_of (files k) (input k) (output k) (errors k)
-
--- Fronts of what stands are fronts of what stands as well after nothing was written.
-fronts_unwritten : (s : Started) (x y : Contents) → IsUnwritten x y → Fronts s x x → Fronts s x y
-fronts_unwritten (Runs m) x y same f = record {
-  output = subst (λ a. IsFront a m.output) (sym same.output) f.output;
-  errors = subst (λ a. IsFront a m.errors) (sym same.errors) f.errors;
-  files = same.files ∙ f.files;
-}
-fronts_unwritten NoProgram x y same f = same
-fronts_unwritten BadProgram x y same f = same
-
-none_taken : (xs : List ℕ) (n : ℕ) → xs ++ take n [] ≡ xs
-none_taken xs n = ap (λ a. xs ++ a) (take-nil n) ∙ append-nil xs
-
--- A call that writes nothing and takes nothing of the console's input.
-record IsSilent (o : Objects) (call : Call) : Type 0 where
-  pub output : output_of o call ≡ []
-  pub errors : errors_of o call ≡ []
-  pub input : input_of o call ≡ 0
-
-read_silent : (count : ℕ) (name : Option StreamName) → is_file name ≡ true → from_input count name ≡ 0
-read_silent count (Some (File name)) file = refl
-read_silent count (Some ConIn) file = absurd (cc)
-read_silent count (Some ConOut) file = absurd (cc)
-read_silent count (Some ConErr) file = absurd (cc)
-read_silent count None file = absurd (cc)
-
-silent_quiet : (o : Objects) (call : Call) → IsQuiet o call → IsSilent o call
-silent_quiet o (StreamRead stream offset count) quiet = record { output = refl; errors = refl; input = read_silent count _ quiet }
-silent_quiet o (StreamWrite stream offset bytes) quiet = absurd quiet
-silent_quiet o call quiet = record { output = refl; errors = refl; input = refl }
-
-left_same : (o : Objects) (call : Call) (x : Contents) (put noted taken : ℕ) → IsSilent o call → taken ≤ input_of o call → left_by o call x put noted taken ≡ x
-left_same o call x put noted taken silent within =
-    let none : taken ≡ 0 = let e = silent.input in omega arith in
-    let input : drop taken x.input ≡ x.input = ap (λ n. drop n x.input) none in
-    let output : x.output ++ take put (output_of o call) ≡ x.output = ap (λ a. x.output ++ take put a) silent.output ∙ none_taken x.output put in
-    let errors : x.errors ++ take noted (errors_of o call) ≡ x.errors = ap (λ a. x.errors ++ take noted a) silent.errors ∙ none_taken x.errors noted in
-    λ k. record { files = x.files; input = input k; output = output k; errors = errors k }
-
--- The stream that a write names is that of the description behind its descriptor.
-stream_named : (os : LibOs) (o : Objects) (c : Cont) → FitsWriteBytes os o c → stream_of (object_at o (wanted_stream os c)) ≡ Some (stream_in os c)
-stream_named os o c fits =
-    let named : stream_in os c ≡ stream_described (Some fits.writes.description) =
-    ap (λ (u : Upcall). stream_described (description_behind os u.process (register u.context 10))) (ap upcall_in fits.writes.served.event) ∙ ap stream_described fits.writes.behind in
-    stream_there os c o fits ∙ ap Some (sym named)
-
-module _ (os : LibOs) (o : Objects) (x : Contents) (put noted taken : ℕ) where
-  left_at : (c : Cont) (stage : Stage) → FitsStage os o c stage → Fronts (meant_at os (world o x) c stage) x (left_by o (asked os c stage) x put noted taken)
-  left_at c WriteStream fits =
-      let s = stream_in os c in
-      let named = stream_named os o c fits in
-      fronts_write (base os (world o x)) (caller_in os c) s c.bytes (left_by o (asked os c WriteStream) x put noted taken)
-      (subst (λ n. IsFront (x.output ++ take put (for_output c.bytes n)) (x.output ++ for_output c.bytes (Some s))) (sym named) (front_take put x.output (for_output c.bytes (Some s))))
-      (subst (λ n. IsFront (x.errors ++ take noted (for_errors c.bytes n)) (x.errors ++ for_errors c.bytes (Some s))) (sym named) (front_take noted x.errors (for_errors c.bytes (Some s))))
-      refl
-  left_at c stage fits =
-      fronts_unwritten (meant_at os (world o x) c stage) x (left_by o (asked os c stage) x put noted taken)
-      (record { output = none_taken x.output put; errors = none_taken x.errors noted; files = refl }) (fronts_stage os o x c stage)
-
-  left_in : (cont : Option Cont) (call : Call) → asked_by os cont ≡ Some call → FitsCont os o cont → Fronts (meant os (world o x) cont) x (left_by o call x put noted taken)
-  left_in None call asks fits = absurd (cc)
-  left_in (Some c) call asks fits =
-      let same : asked os c c.stage ≡ call = cc in
-      subst (λ k. Fronts (meant_at os (world o x) c c.stage) x (left_by o k x put noted taken)) same (left_at c c.stage fits)
-
--- the pending call fails
-pub halts_call : (os : LibOs) (o : Objects) (t t' : Told) (call : Call) → pending os ≡ Some call → Fits os o → Leaves o call t t' → Halts os o t t'
-halts_call os o t t' call asks fits l = record {
-  halts = record {
-    holds = λ x e. (left_by o call x l.put l.noted l.taken, leaves_told o call t t' x l e, left_in os o x l.put l.noted l.taken os.cont call asks fits);
-  };
-}
-
--- the call of a start fails
-pub quiet_call : (os : LibOs) (o : Objects) (t t' : Told) (call : Call) → pending os ≡ Some call → Fits os o → ServesNoTrap os → Leaves o call t t' → WhereTold t t' (λ x y. y ≡ x)
-quiet_call os o t t' call asks fits start l =
-    let none : IsSilent o call = silent_quiet o call (quiet_asked os o call asks fits start) in
-    record {
-      holds = λ x e. (left_by o call x l.put l.noted l.taken, leaves_told o call t t' x l e, left_same o call x l.put l.noted l.taken none l.within);
-    }
-
 -- nothing was done
 pub halts_same : (os : LibOs) (o : Objects) (t : Told) → Halts os o t t
-halts_same os o t = record { halts = told_same t (λ x y. Fronts (meaning os (world o x)) x y) (λ x. fronts_now os o x) }
+halts_same os o t = record { halts = told_same t (λ x y. Fronts (meaning os (world_of o x)) x y) (λ x. fronts_now os o x) }
+
+front_then : (a b c : List ℕ) → IsFront a b → IsFront b c → IsFront a c
+front_then a b c p q = record { rest = p.rest ++ q.rest; is = q.is ∙ ap (λ z. z ++ q.rest) p.is ∙ append_assoc a p.rest q.rest }
+
+nothing_put : (xs ys zs : List ℕ) → (xs ++ ys) ++ zs ≡ xs → ys ≡ []
+nothing_put xs [] zs e = refl
+nothing_put xs (y ∷ ys) zs e = absurd (let n = ap (length {A = ℕ}) e in omega (arith, n, length-append (xs ++ y ∷ ys) zs, length-append xs (y ∷ ys)))
+
+-- Contents in this order: before, at a part, and after.
+record Ordered (x y' y : Contents) : Type 0 where
+  pub output : IsFront x.output y'.output
+  pub output_later : IsFront y'.output y.output
+  pub errors : IsFront x.errors y'.errors
+  pub errors_later : IsFront y'.errors y.errors
+  pub files : (y'.files ≡ x.files) ⊎ (y'.files ≡ y.files)
+
+unwritten_part : (xs ys zs : List ℕ) → IsFront xs ys → IsFront ys zs → zs ≡ xs → ys ≡ xs
+unwritten_part xs ys zs p q same =
+    let joined : (xs ++ p.rest) ++ q.rest ≡ xs = ap (λ a. a ++ q.rest) (sym p.is) ∙ sym q.is ∙ same in
+    p.is ∙ ap (λ a. xs ++ a) (nothing_put xs p.rest q.rest joined) ∙ append-nil xs
+
+files_part : {X : Type 0} (x y y' m : X) → (y' ≡ x) ⊎ (y' ≡ y) → (y ≡ x) ⊎ (y ≡ m) → (y' ≡ x) ⊎ (y' ≡ m)
+files_part x y y' m (inl p) q = inl p
+files_part x y y' m (inr p) (inl q) = inl (p ∙ q)
+files_part x y y' m (inr p) (inr q) = inr (p ∙ q)
+
+files_same : {X : Type 0} (x y y' : X) → (y' ≡ x) ⊎ (y' ≡ y) → y ≡ x → y' ≡ x
+files_same x y y' (inl p) q = p
+files_same x y y' (inr p) q = p ∙ q
+
+unwritten : (x y' y : Contents) → Ordered x y' y → IsUnwritten x y → IsUnwritten x y'
+unwritten x y' y o u = record {
+  output = unwritten_part x.output y'.output y.output o.output o.output_later u.output;
+  errors = unwritten_part x.errors y'.errors y.errors o.errors o.errors_later u.errors;
+  files = files_same x.files y.files y'.files o.files u.files;
+}
+
+fronts_part : (s : Started) (x y' y : Contents) → Ordered x y' y → Fronts s x y → Fronts s x y'
+fronts_part (Runs m) x y' y o f = record {
+  output = front_then y'.output y.output m.output o.output_later f.output;
+  errors = front_then y'.errors y.errors m.errors o.errors_later f.errors;
+  files = files_part x.files y.files y'.files m.files o.files f.files;
+}
+fronts_part NoProgram x y' y o u = unwritten x y' y o u
+fronts_part BadProgram x y' y o u = unwritten x y' y o u
+
+record FileTold (x y : Contents) (told' : Option Files) : Type 0 where
+  pub files : Files
+  pub told : told' ≡ Some files
+  pub either : (files ≡ x.files) ⊎ (files ≡ y.files)
+
+file_told : (x y : Contents) (told told' row : Option Files) → told ≡ Some x.files → row ≡ Some y.files → (told' ≡ told) ⊎ (told' ≡ row) → FileTold x y told'
+file_told x y told told' row before after (inl p) = record { files = x.files; told = p ∙ before; either = inl refl }
+file_told x y told told' row before after (inr p) = record { files = y.files; told = p ∙ after; either = inr refl }
+
+same_some : {X : Type 0} (a b : X) → Some a ≡ Some b → a ≡ b
+same_some a b e = cc
+
+-- What stands after a part of what leads to `row` is on the way to what `row` is on the way to.
+halts_part : (s : Contents → Started) (t t' row : Told) → IsPartDone t t' row → WhereTold t row (λ x y. Fronts (s x) x y) → WhereTold t t' (λ x y. Fronts (s x) x y)
+halts_part s t t' row b halts = record {
+  holds = λ x e.
+      let w = halts.holds x e in
+      let before = all_told t.files t.input t.output t.errors x e in
+      let after = all_told row.files row.input row.output row.errors w.0 w.1 in
+      let f = file_told x w.0 t.files t'.files row.files before.files after.files b.files in
+      let output : t'.output ≡ Some (x.output ++ b.output.written) = b.output.is ∙ ap (λ a. with_text a b.output.written) before.output in
+      let errors : t'.errors ≡ Some (x.errors ++ b.errors.written) = b.errors.is ∙ ap (λ a. with_text a b.errors.written) before.errors in
+      let input : t'.input ≡ Some (drop b.input.taken x.input) = b.input.is ∙ ap (λ a. without_front a b.input.taken) before.input in
+      let y' : Contents = record { files = f.files; input = drop b.input.taken x.input; output = x.output ++ b.output.written; errors = x.errors ++ b.errors.written } in
+      let later : w.0.output ≡ (x.output ++ b.output.written) ++ b.output.missing = same_some _ _ (sym after.output ∙ b.output.then ∙ ap (λ a. with_text a b.output.missing) output) in
+      let later_errors : w.0.errors ≡ (x.errors ++ b.errors.written) ++ b.errors.missing = same_some _ _ (sym after.errors ∙ b.errors.then ∙ ap (λ a. with_text a b.errors.missing) errors) in
+      let ordered : Ordered x y' w.0 = record {
+        output = record { rest = b.output.written; is = refl };
+        output_later = record { rest = b.output.missing; is = later };
+        errors = record { rest = b.errors.written; is = refl };
+        errors_later = record { rest = b.errors.missing; is = later_errors };
+        files = f.either;
+      } in
+      (y', (λ k. whole_of (f.told k) (input k) (output k) (errors k)), fronts_part (s x) x y' w.0 ordered w.2);
+}
 
 -- ---- a service that is given up later
 
--- Where a trap is served, what it leads to is a machine; a start changed no contents so far.
-module _ (os : LibOs) (o : Objects) (x y z : Contents) (quiet : ServesNoTrap os → y ≡ x) where
-  started_same : os.boot ≡ Going → (s : Started) → Fronts s y z → Fronts s x z
-  started_same going s f = subst (λ (u : Contents). Fronts s u z) (quiet (going_start os going)) f
-
-  after_at : (c : Cont) (stage : Stage) → FitsStage os o c stage → Fronts (meant_at os (world o x) c stage) y z → Fronts (meant_at os (world o x) c stage) x z
-  after_at c Configure fits f = started_same fits.start.going (meant_at os (world o x) c Configure) f
-  after_at c OpenConsole fits f = started_same fits.opening.start.going (meant_at os (world o x) c OpenConsole) f
-  after_at c OpenProgram fits f = started_same fits.start.going (meant_at os (world o x) c OpenProgram) f
-  after_at c ProgramLength fits f = started_same fits.opening.start.going (meant_at os (world o x) c ProgramLength) f
-  after_at c ReadProgram fits f = started_same fits.file.opening.start.going (meant_at os (world o x) c ReadProgram) f
-  after_at c CloseProgram fits f = started_same fits.opening.start.going (meant_at os (world o x) c CloseProgram) f
-  after_at c CreateProcess fits f = started_same fits.opening.start.going (meant_at os (world o x) c CreateProcess) f
-  after_at c stage fits f = f
-
-  after_in : (cont : Option Cont) → os.cont ≡ cont → FitsCont os o cont → Fronts (meant os (world o x) cont) y z → Fronts (meant os (world o x) cont) x z
-  after_in None none fits f = subst (λ (u : Contents). Fronts (meant_idle os (world o x) os.boot) u z) (quiet (λ some. absurd (some none))) f
-  after_in (Some c) is fits f = after_at c c.stage fits f
-
-same_contents : (whole : Option Contents) (x y z : Contents) → whole ≡ Some y → whole ≡ Some z → z ≡ x → y ≡ x
-same_contents whole x y z p q same = cc
-
 -- first a part of the service, then it is given up
-pub halts_after : (os os1 : LibOs) (o o1 : Objects) (t t1 t2 : Told)
-    → Fits os o → Serves os o t os1 o1 t1 → StartsQuietly os t os1 t1 → Halts os1 o1 t1 t2 → Halts os o t t2
-halts_after os os1 o o1 t t1 t2 fits serves quiet halts = record {
-  halts = record {
-    holds = λ x e.
-        let first = serves.means.holds x e in
-        let last = halts.halts.holds first.0 first.1 in
-        let same : ServesNoTrap os → first.0 ≡ x = λ start. let q = (quiet.quiet start).holds x e in same_contents (whole t1) x first.0 q.0 first.1 q.1 q.2 in
-        (last.0, last.1, after_in os o x first.0 last.0 same os.cont refl fits (subst (λ s. Fronts s first.0 last.0) first.2 last.2));
-  };
-}
+pub halts_after : (os os1 : LibOs) (o o1 : Objects) (t t1 t2 : Told) → Serves os o t os1 o1 t1 → Halts os1 o1 t1 t2 → Halts os o t t2
+halts_after os os1 o o1 t t1 t2 serves halts = record { halts = stands_then os o t os1 o1 t1 t2 serves halts.halts }
 
 -- the reply is lost
 pub halts_answered : (os : LibOs) (o o' : Objects) (t t' : Told) (call : Call) (r : Reply)
-    → pending os ≡ Some call → Fits os o → IsSound o → Answers o t call r o' t' → Halts os o t t'
-halts_answered os o o' t t' call r asks fits sound a =
-    halts_after os (answered os r) o o' t t' t' fits
-    (answer_serves os (answered os r) o o' t t' call r (answered_keeps os r) refl asks fits sound a)
-    (quiet_step os (answered os r) o o' t t' call r refl asks fits a)
-    (halts_same (answered os r) o' t')
+    → pending os ≡ Some call → AsksTaken os call → Fits os o → IsSound o → Answers o t call r o' t' → Halts os o t t'
+halts_answered os o o' t t' call r asks taken fits sound a = record {
+  halts = (answer_serves os (answered os r) o o' t t' call r (answered_keeps os r) refl asks taken fits sound a).stands;
+}
+
+-- the pending call fails
+pub halts_call : (os : LibOs) (o : Objects) (t t' : Told) (call : Call) → pending os ≡ Some call → AsksTaken os call → Fits os o → IsSound o → Leaves o call t t' → Halts os o t t'
+halts_call os o t t' call asks taken fits sound (Nothing same) = subst (λ (u : Told). Halts os o t u) (sym same) (halts_same os o t)
+halts_call os o t t' call asks taken fits sound (Part part) = record {
+  halts = halts_part (λ x. meaning os (world_of o x)) t t' part.whole part.part
+      (halts_answered os o part.objects t part.whole call part.reply asks taken fits sound part.answers).halts;
+}
 
 -- ---- a turn
 
 -- nothing was written
 pub halts_turn_same : (os : LibOs) (o : Objects) (t : Told) → HaltsTurn os o t t
-halts_turn_same os o t = record { halts = told_same t (λ x y. FrontsMachine (turn_of (base os (world o x))) y) (λ x. front_turn (base os (world o x))) }
+halts_turn_same os o t = record { halts = told_same t (λ x y. FrontsMachine (turn_of (base os (world_of o x))) x y) (λ x. begins_turn (base os (world_of o x))) }
 
 -- the service of the turn's trap is given up
 pub halts_turn_served : (os os1 : LibOs) (o o1 o2 : Objects) (t t1 t2 : Told) (u : Upcall)
-    → IsUp os o → exit_code os ≡ None → IsSound o → turned o ≡ (Exception u, o1) → t1 ≡ t → EntersTurn os u os1 → Halts os1 o1 t1 t2 → HaltsTurn os o t t2
+    → IsUp os o → exit_code os ≡ None → IsSound o → world_turn o ≡ (Exception u, o1) → t1 ≡ t → EntersTurn os u os1 → Halts os1 o1 t1 t2 → HaltsTurn os o t t2
 halts_turn_served os os1 o o1 o2 t t1 t2 u is none sound turn same enters halts =
     let fits : FitsIdle os o = subst (FitsUp os o) none is.fits in
     record {
       halts = record {
         holds = λ x e.
             let last = halts.halts.holds x (ap whole same ∙ e) in
-            (last.0, last.1, subst (λ s. Fronts s x last.0) (enters.enters (world o x) o1 fits sound turn).1 last.2);
+            (last.0, last.1, subst (λ s. Fronts s x last.0) (enters.enters (world_of o x) o1 fits sound turn).1 last.2);
       };
     }
 
@@ -239,18 +184,44 @@ halts_turn_served os os1 o o1 o2 t t1 t2 u is none sound turn same enters halts 
 
 -- no turn is made yet
 pub turns_none : (os : LibOs) (o : Objects) (t : Told) → MakesTurns 0 os o t os o t
-turns_none os o t = record { means = told_same t (λ x y. base os (world o y) ≡ after_turns 0 (base os (world o x))) (λ x. refl) }
+turns_none os o t = record { means = told_same t (λ x y. base os (world_of o y) ≡ after_turns 0 (base os (world_of o x))) (λ x. refl) }
 
 -- one more turn
 pub turns_then : (k : ℕ) (os os' os'' : LibOs) (o o' o'' : Objects) (t t' t'' : Told)
     → MakesTurns k os o t os' o' t' → MakesTurn os' o' t' os'' o'' t'' → MakesTurns (k + 1) os o t os'' o'' t''
 turns_then k os os' os'' o o' o'' t t' t'' before turn = record {
-  means = told_then t t' t'' _ _ (λ x z. base os'' (world o'' z) ≡ after_turns (k + 1) (base os (world o x)))
-      (λ x y z p q. q ∙ ap turn_of p ∙ ap (λ n. after_turns n (base os (world o x))) (suc_add k)) before.means turn.means;
+  means = told_then t t' t'' _ _ (λ x z. base os'' (world_of o'' z) ≡ after_turns (k + 1) (base os (world_of o x)))
+      (λ x y z p q. q ∙ ap turn_of p ∙ ap (λ n. after_turns n (base os (world_of o x))) (suc_add k)) before.means turn.means;
 }
   where
     suc_add : (n : ℕ) → suc n ≡ n + 1
     suc_add n = omega arith
+
+-- between two turns
+stays_at : (k n : ℕ) (m : Mono) (y : Contents) → k ≤ n → (now : Mono) → now ≡ after_turns k m → FrontsMachine now y y → y.files ≡ now.files → FrontsRun n m y
+stays_at k n m y within now is f files = record {
+  turns = k;
+  within = within;
+  output = subst (λ (u : Mono). IsFront y.output u.output) is f.output;
+  errors = subst (λ (u : Mono). IsFront y.errors u.errors) is f.errors;
+  files = inr (files ∙ ap (λ (u : Mono). u.files) is);
+}
+
+-- in a turn
+runs_on : (k n : ℕ) (m : Mono) (y z : Contents) → k + 1 ≤ n → (now : Mono) → now ≡ after_turns k m → y.files ≡ now.files → FrontsMachine (turn_of now) y z → FrontsRun n m z
+runs_on k n m y z left now is files f = record {
+  turns = suc k;
+  within = omega arith;
+  output = subst (λ (u : Mono). IsFront z.output (turn_of u).output) is f.output;
+  errors = subst (λ (u : Mono). IsFront z.errors (turn_of u).errors) is f.errors;
+  files = either_files f.files;
+}
+  where
+    one_less : suc k - 1 ≡ k
+    one_less = omega arith
+    either_files : (z.files ≡ y.files) ⊎ (z.files ≡ (turn_of now).files) → (z.files ≡ (after_turns (suc k - 1) m).files) ⊎ (z.files ≡ (after_turns (suc k) m).files)
+    either_files (inl same) = inl (same ∙ files ∙ ap (λ (u : Mono). u.files) is ∙ ap (λ j. (after_turns j m).files) (sym one_less))
+    either_files (inr new) = inr (new ∙ ap (λ (u : Mono). (turn_of u).files) is)
 
 -- the run is given up between two turns
 pub halts_run_now : (k n : ℕ) (os os' : LibOs) (o o' : Objects) (t t' : Told) → k ≤ n → MakesTurns k os o t os' o' t' → HaltsRun n os o t t'
@@ -258,7 +229,7 @@ halts_run_now k n os os' o o' t t' within made = record {
   halts = record {
     holds = λ x e.
         let a = made.means.holds x e in
-        (a.0, a.1, record { turns = k; within = within; fronts = subst (λ m. FrontsMachine m a.0) a.2 (fronts_same (base os' (world o' a.0))) });
+        (a.0, a.1, stays_at k n (base os (world_of o x)) a.0 within (base os' (world_of o' a.0)) a.2 (begins_same (base os' (world_of o' a.0))) refl);
   };
 }
 
@@ -266,6 +237,6 @@ halts_run_now k n os os' o o' t t' within made = record {
 pub halts_run : (k n : ℕ) (os os1 : LibOs) (o o1 : Objects) (t t1 t2 : Told)
     → k + 1 ≤ n → MakesTurns k os o t os1 o1 t1 → HaltsTurn os1 o1 t1 t2 → HaltsRun n os o t t2
 halts_run k n os os1 o o1 t t1 t2 left turns halts = record {
-  halts = told_then t t1 t2 _ _ (λ x z. FrontsRun n (base os (world o x)) z)
-      (λ x y z p q. record { turns = suc k; within = omega arith; fronts = subst (λ m. FrontsMachine (turn_of m) z) p q }) turns.means halts.halts;
+  halts = told_then t t1 t2 _ _ (λ x z. FrontsRun n (base os (world_of o x)) z)
+      (λ x y z p q. runs_on k n (base os (world_of o x)) y z left (base os1 (world_of o1 y)) p refl q) turns.means halts.halts;
 }

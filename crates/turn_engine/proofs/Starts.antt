@@ -5,9 +5,8 @@ use Rattle.std.specs.declared.option.Option.TheVariants.{None, Some}
 use Rattle.abi_calls.specs.declared.call.Call.{Call}
 use Rattle.abi_calls.specs.declared.reply.Reply.{Reply}
 use Rattle.abi_calls.specs.declared.reply.Reply.TheVariants.{Done, Handle, Bytes, Length}
-use Rattle.abi_calls.specs.Objects.{Object, Objects}
+use Rattle.abi_calls.specs.Objects.{Objects}
 use Rattle.abi_calls.specs.World.{Told}
-use Rattle.abi_calls.specs.Streams.{stream_of}
 use Rattle.abi_calls.specs.Abi.{Answers, is_file}
 use Rattle.mono_model.specs.Program.{is_plain}
 use Rattle.libos_state.specs.declared.cont.Cont.{Cont}
@@ -26,7 +25,7 @@ use Rattle.turn_engine.proofs.Quiet.{IsQuiet, told_quiet}
 -- What a start asks for changes no contents.
 asked_quiet : (os : LibOs) (o : Objects) (c : Cont) (stage : Stage) → FitsStage os o c stage → os.boot ≢ Up → IsQuiet o (asked os c stage)
 asked_quiet os o c WriteStream fits start = absurd (start fits.writes.served.up)
-asked_quiet os o c ReadProgram fits start = ap (λ (x : Option Object). is_file (stream_of x)) fits.file.file
+asked_quiet os o c ReadProgram fits start = ap is_file fits.file.file
 asked_quiet os o c OpenConsole fits start = refl
 asked_quiet os o c OpenProgram fits start = refl
 asked_quiet os o c _ fits start = tt

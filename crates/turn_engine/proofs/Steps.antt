@@ -1,5 +1,5 @@
 -- One step of a service, and one turn.
-use Rattle.std.proofs.Common.{◌≡◌, ℕ, ◌==◌, ◌%◌, Bool, true, false, if◌then◌else◌, bit_and, List, [], ◌∷◌, refl, sym, ◌∙◌, ap, subst}
+use Rattle.std.proofs.Common.{inl, ◌≡◌, ℕ, ◌==◌, ◌%◌, Bool, true, false, if◌then◌else◌, bit_and, List, [], ◌∷◌, refl, sym, ◌∙◌, ap, subst}
 use Rattle.std.specs.FinMap.{empty}
 use Rattle.std.specs.declared.option.Option.{Option}
 use Rattle.std.specs.declared.option.Option.TheVariants.{None, Some}
@@ -12,42 +12,101 @@ use Rattle.abi_calls.specs.Objects.{Objects, next_position}
 use Rattle.abi_calls.specs.World.{World, Contents, Told}
 use Rattle.abi_calls.specs.Abi.{Answers}
 use Rattle.abi_calls.specs.Sound.{IsSound}
-use Rattle.abi_calls.specs.Turn.{turned}
-use Rattle.abi_calls.proofs.TurnFacts.{turned_moves}
+use Rattle.abi_calls.specs.Turn.{world_turn}
+use Rattle.abi_calls.proofs.TurnFacts.{world_turn-moves}
+use Rattle.abi_calls.proofs.Sounds.{IsSound-with_due_ready}
 use Rattle.mono_model.specs.Machine.{Mono, register}
 use Rattle.mono_model.specs.Calls.{WRITE, EXIT, EBADF, ENOSYS, error, fault_code}
 use Rattle.mono_model.specs.Turns.{turn_of}
 use Rattle.mono_model.specs.Starting.{Started, Runs}
 use Rattle.libos_state.specs.declared.state.Boot.{Boot}
-use Rattle.libos_state.specs.declared.state.Boot.TheVariants.{Up}
+use Rattle.libos_state.specs.declared.state.Boot.TheVariants.{Up, Going}
 use Rattle.libos_state.specs.declared.cont.Cont.{Cont}
-use Rattle.libos_state.specs.declared.cont.Stage.TheVariants.{ReadMemory}
+use Rattle.libos_state.specs.declared.cont.Stage.{Stage}
+use Rattle.libos_state.specs.declared.cont.Stage.TheVariants.{ReadMemory, Configure, OpenConsole, OpenProgram, ProgramLength, ReadProgram, CloseProgram, CreateProcess}
 use Rattle.libos_state.specs.declared.notes.Description.{Description}
 use Rattle.libos_state.specs.declared.state.LibOs.{LibOs}
 use Rattle.libos_state.specs.Records.{base, description_behind}
 use Rattle.libos_state.specs.Pending.{pending}
 use Rattle.libos_state.specs.Answered.{answered, closes_on, goes_on}
 use Rattle.libos_state.specs.Entered.{entered, entered_with, call_entered, ends_process, write_entered, result_of, without_process, handles_of}
-use Rattle.libos_state.specs.Meaning.{meaning, meant, meant_idle}
-use Rattle.libos_state.specs.Fits.{Fits, FitsCont, FitsBoot, FitsUp, FitsIdle, exit_code}
-use Rattle.libos_state.specs.Laws.{KeepsMeaning, EntersTurn}
-use Rattle.libos_state.proofs.Turning.{turn_ran}
+use Rattle.libos_state.specs.Meaning.{meaning, meant, meant_at, meant_idle}
+use Rattle.libos_state.specs.Fits.{Fits, FitsCont, FitsStage, FitsBoot, FitsUp, FitsIdle, exit_code}
+use Rattle.libos_state.specs.Laws.{KeepsMeaning, AsksTaken, EntersTurn}
+use Rattle.libos_state.proofs.Turning.{turn_ran, turn_never_stuck}
 use Rattle.libos_state.proofs.Idle.{exit_code_is}
-use Rattle.abi_calls.specs.World.{WhereTold, world, whole}
+use Rattle.abi_calls.specs.World.{WhereTold, world_of, whole}
 use Rattle.turn_engine.specs.Serves.{Serves, IsUp, MakesTurn}
+use Rattle.turn_engine.specs.Halts.{Fronts, ServesNoTrap}
+use Rattle.turn_engine.proofs.Fronts.{fronts_now}
+use Rattle.turn_engine.proofs.Quiet.{told_taken}
+use Rattle.turn_engine.proofs.Starts.{quiet_step, going_start}
 use Rattle.turn_engine.proofs.Telling.{told_same, told_then}
 use Rattle.turn_engine.proofs.Serving.{answer_means, answer_fits}
 use Rattle.turn_engine.proofs.Turns.{answer_turns}
 use Rattle.turn_engine.proofs.Boots.{boot_answered}
 
+-- Where a trap is served, what it leads to is a machine; a start changed no contents.
+module _ (os : LibOs) (o : Objects) (x y : Contents) (quiet : ServesNoTrap os → y ≡ x) (files : y.files ≡ x.files) where
+  started_same : os.boot ≡ Going → (s : Started) → Fronts s y y → Fronts s x y
+  started_same going s f = subst (λ (u : Contents). Fronts s u y) (quiet (going_start os going)) f
+
+  stands_at : (c : Cont) (stage : Stage) → FitsStage os o c stage → Fronts (meant_at os (world_of o x) c stage) y y → Fronts (meant_at os (world_of o x) c stage) x y
+  stands_at c Configure fits f = started_same fits.start.going (meant_at os (world_of o x) c Configure) f
+  stands_at c OpenConsole fits f = started_same fits.opening.start.going (meant_at os (world_of o x) c OpenConsole) f
+  stands_at c OpenProgram fits f = started_same fits.start.going (meant_at os (world_of o x) c OpenProgram) f
+  stands_at c ProgramLength fits f = started_same fits.opening.start.going (meant_at os (world_of o x) c ProgramLength) f
+  stands_at c ReadProgram fits f = started_same fits.file.opening.start.going (meant_at os (world_of o x) c ReadProgram) f
+  stands_at c CloseProgram fits f = started_same fits.opening.start.going (meant_at os (world_of o x) c CloseProgram) f
+  stands_at c CreateProcess fits f = started_same fits.opening.start.going (meant_at os (world_of o x) c CreateProcess) f
+  stands_at c stage fits f = record { output = f.output; errors = f.errors; files = inl files }
+
+  stands_in : (cont : Option Cont) → os.cont ≡ cont → FitsCont os o cont → Fronts (meant os (world_of o x) cont) y y → Fronts (meant os (world_of o x) cont) x y
+  stands_in None none fits f = subst (λ (u : Contents). Fronts (meant_idle os (world_of o x) os.boot) u y) (quiet (λ some. absurd (some none))) f
+  stands_in (Some c) is fits f = stands_at c c.stage fits f
+
+-- What the contents became by a reply.
+record Became (os : LibOs) (o : Objects) (os' : LibOs) (o' : Objects) (x y : Contents) : Type 0 where
+  pub same : meaning os' (world_of o' y) ≡ meaning os (world_of o x)
+  pub files : y.files ≡ x.files
+  pub quiet : ServesNoTrap os → y ≡ x
+
+answer_became : (os os' : LibOs) (o o' : Objects) (t t' : Told) (call : Call) (r : Reply)
+    → KeepsMeaning os r os' → os' ≡ answered os r → pending os ≡ Some call → AsksTaken os call → Fits os o → IsSound o → Answers o t call r o' t' → WhereTold t t' (Became os o os' o')
+answer_became os os' o o' t t' call r keeps is asks taken fits sound a =
+    let quiet = quiet_step os os' o o' t t' call r is asks fits a in
+    record {
+      holds = λ x e.
+          let m = (answer_means os os' o o' t t' call r keeps asks fits sound a).holds x e in
+          let f = (told_taken o o' t t' call r (taken.taken o fits) a).holds x e in
+          let one : (y z : Contents) → whole t' ≡ Some y → whole t' ≡ Some z → y ≡ z = same_whole (whole t') in
+          (m.0, m.1, record {
+            same = m.2;
+            files = subst (λ (c : Contents). c.files ≡ x.files) (one f.0 m.0 f.1 m.1) f.2;
+            quiet = λ start. let q = (quiet.quiet start).holds x e in subst (λ (c : Contents). c ≡ x) (one q.0 m.0 q.1 m.1) q.2;
+          });
+    }
+  where
+    same_whole : (w : Option Contents) (y z : Contents) → w ≡ Some y → w ≡ Some z → y ≡ z
+    same_whole w y z p q = cc
+
+answer_stands : (os os' : LibOs) (o o' : Objects) (t t' : Told) (call : Call) (r : Reply)
+    → KeepsMeaning os r os' → os' ≡ answered os r → pending os ≡ Some call → AsksTaken os call → Fits os o → IsSound o → Answers o t call r o' t' → WhereTold t t' (λ x y. Fronts (meaning os (world_of o x)) x y)
+answer_stands os os' o o' t t' call r keeps is asks taken fits sound a = record {
+  holds = λ x e.
+      let b = (answer_became os os' o o' t t' call r keeps is asks taken fits sound a).holds x e in
+      (b.0, b.1, stands_in os o x b.0 b.2.quiet b.2.files os.cont refl fits (subst (λ s. Fronts s b.0 b.0) b.2.same (fronts_now os' o' b.0)));
+}
+
 -- one reply to the pending call
 pub answer_serves : (os os' : LibOs) (o o' : Objects) (t t' : Told) (call : Call) (r : Reply)
-    → KeepsMeaning os r os' → os' ≡ answered os r → pending os ≡ Some call → Fits os o → IsSound o → Answers o t call r o' t' → Serves os o t os' o' t'
-answer_serves os os' o o' t t' call r keeps is asks fits sound a = record {
+    → KeepsMeaning os r os' → os' ≡ answered os r → pending os ≡ Some call → AsksTaken os call → Fits os o → IsSound o → Answers o t call r o' t' → Serves os o t os' o' t'
+answer_serves os os' o o' t t' call r keeps is asks taken fits sound a = record {
   fits = answer_fits os os' o o' t t' call r keeps asks fits sound a;
   up = λ up. subst (λ (x : LibOs). x.boot ≡ Up) (sym is) (boot_answered os o r fits up);
   turns = answer_turns os o o' t t' call r asks fits a;
   means = answer_means os os' o o' t t' call r keeps asks fits sound a;
+  stands = answer_stands os os' o o' t t' call r keeps is asks taken fits sound a;
 }
 
 up_by : (os : LibOs) (o : Objects) (cont : Option Cont) (b : Boot) → cont ≡ None → b ≡ Up → os.boot ≡ b → os.cont ≡ cont → FitsCont os o cont → FitsUp os o (exit_code os)
@@ -71,15 +130,19 @@ no_contents : Contents
 no_contents = record { files = empty; input = []; output = []; errors = [] }
 
 -- a turn that ran
-pub ran_turn : (os : LibOs) (o o' : Objects) (t t' : Told) → IsUp os o → exit_code os ≡ None → IsSound o → turned o ≡ (Ran, o') → t' ≡ t → MakesTurn os o t os o' t'
+pub ran_turn : (os : LibOs) (o o' : Objects) (t t' : Told) → IsUp os o → exit_code os ≡ None → IsSound o → world_turn o ≡ (Ran, o') → t' ≡ t → MakesTurn os o t os o' t'
 ran_turn os o o' t t' is none sound turn same =
     let fits : FitsIdle os o = subst (FitsUp os o) none is.fits in
-    let still : FitsIdle os o' = (turn_ran os (world o no_contents) o' fits sound turn).0 in
+    let still : FitsIdle os o' = (turn_ran os (world_of o no_contents) o' fits sound turn).0 in
     subst (λ (u : Told). MakesTurn os o t os o' u) (sym same) (record {
       up = record { up = is.up; settled = is.settled; fits = subst (FitsUp os o') (sym none) still };
-      turns = ap (λ p. p.turns) (turned_moves o Ran o' sound turn).positions;
-      means = told_same t (λ x y. base os (world o' y) ≡ turn_of (base os (world o x))) (λ x. (turn_ran os (world o x) o' fits sound turn).1);
+      turns = ap (λ p. p.turns) (world_turn-moves o Ran o' (IsSound-with_due_ready o sound) turn).positions;
+      means = told_same t (λ x y. base os (world_of o' y) ≡ turn_of (base os (world_of o x))) (λ x. (turn_ran os (world_of o x) o' fits sound turn).1);
     })
+
+-- a machine that is up isn't stuck
+pub never_stuck : (os : LibOs) (o o' : Objects) → IsUp os o → exit_code os ≡ None → IsSound o → world_turn o ≡ (Stuck, o') → ⊥
+never_stuck os o o' is none sound turn = turn_never_stuck os (world_of o no_contents) o' (subst (FitsUp os o) none is.fits) sound turn
 
 boot_if : (b : Bool) (x y : LibOs) (n : Boot) → x.boot ≡ n → y.boot ≡ n → (if b then x else y).boot ≡ n
 boot_if true x y n p q = p
@@ -115,28 +178,28 @@ runs_same : (m n : Mono) → Runs m ≡ Runs n → m ≡ n
 runs_same m n e = cc
 
 -- a trap begins a service that fits
-pub trap_fits : (os os1 : LibOs) (o o1 : Objects) (u : Upcall) → IsUp os o → exit_code os ≡ None → IsSound o → EntersTurn os u os1 → turned o ≡ (Exception u, o1) → Fits os1 o1
+pub trap_fits : (os os1 : LibOs) (o o1 : Objects) (u : Upcall) → IsUp os o → exit_code os ≡ None → IsSound o → EntersTurn os u os1 → world_turn o ≡ (Exception u, o1) → Fits os1 o1
 trap_fits os os1 o o1 u is none sound enters turn =
-    (enters.enters (world o no_contents) o1 (subst (FitsUp os o) none is.fits) sound turn).0
+    (enters.enters (world_of o no_contents) o1 (subst (FitsUp os o) none is.fits) sound turn).0
 
 -- a turn that traps and is served
 pub trap_turn : (os os1 os2 : LibOs) (o o1 o2 : Objects) (t t1 t2 : Told) (u : Upcall)
-    → IsUp os o → exit_code os ≡ None → IsSound o → turned o ≡ (Exception u, o1) → t1 ≡ t
+    → IsUp os o → exit_code os ≡ None → IsSound o → world_turn o ≡ (Exception u, o1) → t1 ≡ t
     → EntersTurn os u os1 → os1 ≡ entered os u → Serves os1 o1 t1 os2 o2 t2 → os2.cont ≡ None → MakesTurn os o t os2 o2 t2
 trap_turn os os1 os2 o o1 o2 t t1 t2 u is none sound turn same enters begun serves settled =
     let fits : FitsIdle os o = subst (FitsUp os o) none is.fits in
     let up1 : os1.boot ≡ Up = ap (λ (x : LibOs). x.boot) begun ∙ boot_entered os u ∙ is.up in
     let up2 : IsUp os2 o2 = settled_up os2 o2 serves.fits settled (serves.up up1) in
-    let kept : WhereTold t t2 (λ x y. meaning os2 (world o2 y) ≡ meaning os1 (world o1 x)) =
-    subst (λ (v : Told). WhereTold v t2 (λ x y. meaning os2 (world o2 y) ≡ meaning os1 (world o1 x))) same serves.means in
+    let kept : WhereTold t t2 (λ x y. meaning os2 (world_of o2 y) ≡ meaning os1 (world_of o1 x)) =
+    subst (λ (v : Told). WhereTold v t2 (λ x y. meaning os2 (world_of o2 y) ≡ meaning os1 (world_of o1 x))) same serves.means in
     record {
       up = up2;
-      turns = serves.turns ∙ ap (λ p. p.turns) (turned_moves o (Exception u) o1 sound turn).positions;
+      turns = serves.turns ∙ ap (λ p. p.turns) (world_turn-moves o (Exception u) o1 (IsSound-with_due_ready o sound) turn).positions;
       means = record {
         holds = λ x e.
             let after = kept.holds x e in
-            let is_base : meaning os2 (world o2 after.0) ≡ Runs (base os2 (world o2 after.0)) = meaning_up os2 o2 (world o2 after.0) up2 in
-            let began : meaning os1 (world o1 x) ≡ Runs (turn_of (base os (world o x))) = (enters.enters (world o x) o1 fits sound turn).1 in
-            (after.0, after.1, runs_same (base os2 (world o2 after.0)) (turn_of (base os (world o x))) (sym is_base ∙ after.2 ∙ began));
+            let is_base : meaning os2 (world_of o2 after.0) ≡ Runs (base os2 (world_of o2 after.0)) = meaning_up os2 o2 (world_of o2 after.0) up2 in
+            let began : meaning os1 (world_of o1 x) ≡ Runs (turn_of (base os (world_of o x))) = (enters.enters (world_of o x) o1 fits sound turn).1 in
+            (after.0, after.1, runs_same (base os2 (world_of o2 after.0)) (turn_of (base os (world_of o x))) (sym is_base ∙ after.2 ∙ began));
       };
     }

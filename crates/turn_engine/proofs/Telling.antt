@@ -45,3 +45,15 @@ pub told_then : (t u v : Told) (P Q R : Contents → Contents → Type 0) → ((
 told_then t u v P Q R joins first next = record {
   holds = λ x e. let a = first.holds x e in let b = next.holds a.0 a.1 in (b.0, b.1, joins x a.0 b.0 a.2 b.2);
 }
+
+same_some : {X : Type 0} (x : Option X) (a b : X) → x ≡ Some a → x ≡ Some b → b ≡ a
+same_some x a b p q = cc
+
+-- Two facts of the same contents.
+pub told_both : (t u : Told) (P Q R : Contents → Contents → Type 0) → ((x y : Contents) → P x y → Q x y → R x y)
+    → WhereTold t u P → WhereTold t u Q → WhereTold t u R
+told_both t u P Q R joins first next = record {
+  holds = λ x e.
+      let a = first.holds x e in let b = next.holds x e in
+      (a.0, a.1, joins x a.0 a.2 (subst (λ (c : Contents). Q x c) (same_some (whole u) a.0 b.0 a.1 b.1) b.2));
+}

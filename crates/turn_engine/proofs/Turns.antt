@@ -10,7 +10,7 @@ use Rattle.abi_calls.specs.Objects.{Objects, number_of}
 use Rattle.abi_calls.specs.World.{World, Told, Answer}
 use Rattle.abi_calls.specs.Abi.{Abi, Answers, answer}
 use Rattle.abi_calls.specs.Processes.{configure_row, is_acceptable, is_running}
-use Rattle.abi_calls.proofs.Effects.{is_configure}
+use Rattle.abi_calls.proofs.PositionsKept.{is_configure}
 use Rattle.abi_calls.proofs.PositionsKept.{KeepsPositions, KeepsPositions-Answers}
 use Rattle.libos_state.specs.declared.cont.Cont.{Cont}
 use Rattle.libos_state.specs.declared.cont.Stage.{Stage}
@@ -19,19 +19,19 @@ use Rattle.libos_state.specs.declared.state.LibOs.{LibOs}
 use Rattle.libos_state.specs.Pending.{pending, asked, asked_by, no_positions}
 use Rattle.libos_state.specs.Fits.{Fits, FitsCont, FitsStage}
 
-abbrev turns_in : Answer → ℕ
-turns_in a = (a.1).objects.positions.turns
+abbrev turns_in : Reply × Objects → ℕ
+turns_in a = (a.1).positions.turns
 
-either : (b : Bool) (x y : Answer) (n : ℕ) → turns_in x ≡ n → turns_in y ≡ n → turns_in (if b then x else y) ≡ n
+either : (b : Bool) (x y : Reply × Objects) (n : ℕ) → turns_in x ≡ n → turns_in y ≡ n → turns_in (if b then x else y) ≡ n
 either true x y n p q = p
 either false x y n p q = q
 
-turns_configured : (w : World) (s : Settings) → w.objects.positions.turns ≡ 0 → turns_in (configure_row w s no_positions) ≡ w.objects.positions.turns
-turns_configured w s none =
-    let changed : World = record w { objects = record w.objects { settings = s; positions = no_positions } } in
-    let taken : Answer = if not (w.objects.positions.turns == 0) || nat_lt 0 (number_of is_running w.objects.live) then (Busy, w) else (Done, changed) in
-    either (not (is_acceptable s)) (TooBig, w) taken w.objects.positions.turns refl
-    (either (not (w.objects.positions.turns == 0) || nat_lt 0 (number_of is_running w.objects.live)) (Busy, w) (Done, changed) w.objects.positions.turns refl (sym none))
+turns_configured : (o : Objects) (s : Settings) → o.positions.turns ≡ 0 → turns_in (configure_row o s no_positions) ≡ o.positions.turns
+turns_configured o s none =
+    let changed : Objects = record o { settings = s; positions = no_positions } in
+    let taken : Reply × Objects = if not (o.positions.turns == 0) || nat_lt 0 (number_of is_running o.live) then (Busy, o) else (Done, changed) in
+    either (not (is_acceptable s)) (TooBig, o) taken o.positions.turns refl
+    (either (not (o.positions.turns == 0) || nat_lt 0 (number_of is_running o.live)) (Busy, o) (Done, changed) o.positions.turns refl (sym none))
 
 turns_kept : (o o' : Objects) (t t' : Told) (call : Call) (r : Reply) → is_configure call ≡ false → Answers o t call r o' t' → o'.positions.turns ≡ o.positions.turns
 turns_kept o o' t t' call r not a = ap (λ p. p.turns) (KeepsPositions-Answers o o' t t' call r not a).positions
@@ -44,7 +44,7 @@ turns_at os c ExitProcess o o' t t' r fits a = turns_kept o o' t t' _ r refl a
 turns_at os c ReadMemory o o' t t' r fits a = turns_kept o o' t t' _ r refl a
 turns_at os c WriteStream o o' t t' r fits a = turns_kept o o' t t' _ r refl a
 turns_at os c Configure o o' t t' r fits a =
-    sym (ap turns_in a.abi.row) ∙ turns_configured (record { objects = o; contents = a.before }) os.settings fits.unturned
+    sym (ap (λ (x : Answer). x.1.objects.positions.turns) a.abi.row) ∙ turns_configured o os.settings fits.unturned
 turns_at os c OpenConsole o o' t t' r fits a = turns_kept o o' t t' _ r refl a
 turns_at os c OpenProgram o o' t t' r fits a = turns_kept o o' t t' _ r refl a
 turns_at os c ProgramLength o o' t t' r fits a = turns_kept o o' t t' _ r refl a

@@ -5,7 +5,7 @@ use Rattle.std.specs.declared.option.Option.TheVariants.{None, Some}
 use Rattle.abi_calls.specs.declared.threads.Turned.{Turned}
 use Rattle.abi_calls.specs.declared.threads.Turned.TheVariants as world
 use Rattle.abi_calls.specs.Objects.{Objects}
-use Rattle.abi_calls.specs.Turn.{turned}
+use Rattle.abi_calls.specs.Turn.{world_turn}
 use Rattle.turn_engine.specs.declared.machine.TurnEnd.{TurnEnd}
 use Rattle.turn_engine.specs.declared.machine.TurnEnd.TheVariants.{Ran, Served}
 
@@ -19,4 +19,4 @@ end_of world.Stuck = None
 
 -- The turn that the world makes from these objects ends so.
 pub record EndsTurn (o : Objects) (end : TurnEnd) : Type 0 where
-  pub ends : end_of (turned o).0 ≡ Some end
+  pub ends : end_of (world_turn o).0 ≡ Some end

@@ -1,4 +1,3 @@
-pub mod WhereTold
 pub mod Serves
 pub mod Halts
 pub mod Errors

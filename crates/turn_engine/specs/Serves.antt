@@ -9,15 +9,17 @@ use Rattle.libos_state.specs.declared.state.LibOs.{LibOs}
 use Rattle.libos_state.specs.Records.{base}
 use Rattle.libos_state.specs.Meaning.{meaning}
 use Rattle.libos_state.specs.Fits.{Fits, FitsUp, exit_code}
-use Rattle.abi_calls.specs.World.{WhereTold, world}
+use Rattle.turn_engine.specs.Halts.{Fronts}
+use Rattle.abi_calls.specs.World.{WhereTold, world_of}
 
 -- From one moment to a later one of a service: the library OS fits, no turn was made, and, where contents are told, it
--- stands for the same.
+-- stands for the same, and they are on the way to that.
 pub record Serves (os : LibOs) (o : Objects) (told : Told) (os' : LibOs) (o' : Objects) (told' : Told) : Type 0 where
   pub fits : Fits os' o'
   pub up : os.boot ≡ Up → os'.boot ≡ Up
   pub turns : o'.positions.turns ≡ o.positions.turns
-  pub means : WhereTold told told' (λ x y. meaning os' (world o' y) ≡ meaning os (world o x))
+  pub means : WhereTold told told' (λ x y. meaning os' (world_of o' y) ≡ meaning os (world_of o x))
+  pub stands : WhereTold told told' (λ x y. Fronts (meaning os (world_of o x)) x y)
 
 -- The run goes on, or its process has exited, and nothing is in progress.
 pub record IsUp (os : LibOs) (o : Objects) : Type 0 where
@@ -29,4 +31,4 @@ pub record IsUp (os : LibOs) (o : Objects) : Type 0 where
 pub record MakesTurn (os : LibOs) (o : Objects) (told : Told) (os' : LibOs) (o' : Objects) (told' : Told) : Type 0 where
   pub up : IsUp os' o'
   pub turns : o'.positions.turns ≡ next_position o.positions.turns
-  pub means : WhereTold told told' (λ x y. base os' (world o' y) ≡ turn_of (base os (world o x)))
+  pub means : WhereTold told told' (λ x y. base os' (world_of o' y) ≡ turn_of (base os (world_of o x)))

@@ -8,7 +8,7 @@ use Rattle.turn_engine.proofs.machine.Machine.answer.Goals as goal
 pub returns-in_err-reply-clause-halts : goal.returns-in_err-reply-clause-halts
 returns-in_err-reply-clause-halts g c =
     on_err _ _ (halts_call c.args.self.now.os (g.H.Host.objects c.args.host.now) (g.H.Host.told c.args.host.now) (g.H.Host.told c.call.new.self) c.args.call.now
-    c.requires.asks c.requires.fits c.in_err-reply.ensures.left)
+    c.requires.asks c.requires.taken c.requires.fits (g.met.H.Host.sound c.args.host.now) c.in_err-reply.ensures.left)
 
 pub answered-requires : goal.answered-requires
 answered-requires g c = kept_of c.args.self.now.os (g.H.Host.objects c.args.host.now) c.requires.fits
@@ -16,12 +16,12 @@ answered-requires g c = kept_of c.args.self.now.os (g.H.Host.objects c.args.host
 pub returns-in_err-answered-clause-halts : goal.returns-in_err-answered-clause-halts
 returns-in_err-answered-clause-halts g c =
     on_err _ _ (halts_answered c.args.self.now.os (g.H.Host.objects c.args.host.now) (g.H.Host.objects c.call.new.self) (g.H.Host.told c.args.host.now) (g.H.Host.told c.call.new.self)
-    c.args.call.now c.in_ok-reply.reply c.requires.asks c.requires.fits (g.met.H.Host.sound c.args.host.now) c.in_ok-reply.ensures.row)
+    c.args.call.now c.in_ok-reply.reply c.requires.asks c.requires.taken c.requires.fits (g.met.H.Host.sound c.args.host.now) c.in_ok-reply.ensures.row)
 
 pub returns-clause-serves : goal.returns-clause-serves
 returns-clause-serves g c =
     answer_serves c.args.self.now.os c.answered.new.os (g.H.Host.objects c.args.host.now) (g.H.Host.objects c.call.new.self) (g.H.Host.told c.args.host.now) (g.H.Host.told c.call.new.self)
-    c.args.call.now c.in_ok-reply.reply c.in_ok-answered.ensures.kept c.in_ok-answered.ensures.value c.requires.asks c.requires.fits (g.met.H.Host.sound c.args.host.now) c.in_ok-reply.ensures.row
+    c.args.call.now c.in_ok-reply.reply c.in_ok-answered.ensures.kept c.in_ok-answered.ensures.value c.requires.asks c.requires.taken c.requires.fits (g.met.H.Host.sound c.args.host.now) c.in_ok-reply.ensures.row
 
 pub returns-clause-quiet : goal.returns-clause-quiet
 returns-clause-quiet g c =

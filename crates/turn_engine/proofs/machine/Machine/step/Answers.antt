@@ -1,5 +1,6 @@
 use Rattle.libos_calls.proofs.Keeps.{kept_of}
 use Rattle.turn_engine.proofs.Halting.{halts_same}
+use Rattle.turn_engine.proofs.Serving.{serves_none}
 use Rattle.turn_engine.proofs.Progress.{on_err}
 use Rattle.turn_engine.proofs.machine.Machine.step.Goals as goal
 
@@ -8,3 +9,6 @@ pending-requires g c = kept_of c.args.self.now.os (g.H.Host.objects c.args.host.
 
 pub returns-in_err-call-clause-halts : goal.returns-in_err-call-clause-halts
 returns-in_err-call-clause-halts g c = on_err _ _ (halts_same c.args.self.now.os (g.H.Host.objects c.args.host.now) (g.H.Host.told c.args.host.now))
+
+pub returns-in-None-clause-serves : goal.returns-in-None-clause-serves
+returns-in-None-clause-serves g c = serves_none c.args.self.now.os (g.H.Host.objects c.args.host.now) (g.H.Host.told c.args.host.now) c.requires.fits

@@ -1,7 +1,7 @@
 use Rattle.std.proofs.Common.{sym, subst}
 use Rattle.abi_calls.specs.World.{Told}
 use Rattle.turn_engine.specs.Halts.{HaltsTurn}
-use Rattle.turn_engine.proofs.Steps.{ran_turn, trap_fits, trap_turn}
+use Rattle.turn_engine.proofs.Steps.{never_stuck, ran_turn, trap_fits, trap_turn}
 use Rattle.turn_engine.proofs.Halting.{halts_turn_same, halts_turn_served}
 use Rattle.turn_engine.proofs.Progress.{on_err}
 use Rattle.turn_engine.proofs.machine.Machine.turn.Goals as goal
@@ -35,3 +35,7 @@ returns-in_ok-boot-in-Exception-clause-turn g c =
     (g.H.Host.told c.args.host.now) (g.H.Host.told c.turn.new.self) (g.H.Host.told c.boot.new.host) c.in-Exception.upcall
     c.requires.up c.requires.alive (g.met.H.Host.sound c.args.host.now) c.in-Exception.ensures.turned c.in-Exception.ensures.told
     c.in_ok-enter-in-Exception.ensures.turn c.in_ok-enter-in-Exception.ensures.value c.in_ok-boot-in-Exception.ensures.serves c.in_ok-boot-in-Exception.ensures.settled
+
+pub unreachable-requires-in-Stuck : goal.unreachable-requires-in-Stuck
+unreachable-requires-in-Stuck g c =
+    never_stuck c.args.self.now.os (g.H.Host.objects c.args.host.now) (g.H.Host.objects c.turn.new.self) c.requires.up c.requires.alive (g.met.H.Host.sound c.args.host.now) c.in-Stuck.ensures.turned
