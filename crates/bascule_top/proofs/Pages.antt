@@ -17,7 +17,8 @@ use Rattle.guest_space.proofs.Gets.{get-with_run, get-protected, get-with_memory
 use Rattle.guest_space.proofs.Cells.{SameRights-with_bytes, memory_of-place, get_or-bytes_from, memory_of-with_memory}
 use Rattle.guest_space.proofs.Bytes.{with_bytes_before, with_bytes_within}
 use Rattle.guest_space.proofs.Spaces.{HasBytes-memory_of, HasBytes-with_bytes, IsSpace-empty, IsSpace-with_run, IsSpace-protected, IsSpace-with_memory}
-use Rattle.mono_model.specs.Program.{Run, page_bytes, page_count, plain_run}
+use Rattle.elf_loader.specs.declared.Run.{Run}
+use Rattle.mono_model.specs.Program.{page_bytes, page_count, plain_run}
 use Rattle.mono_model.specs.Starting.{STACK_PAGE, STACK_PAGES, stack_pointer, argument_block, pages_in, loaded, stacked, with_stack}
 use Rattle.mono_model.proofs.Sizes.{length-page_bytes, pages_in_plain}
 

@@ -10,14 +10,15 @@ use Rattle.abi_calls.specs.World.{Contents, Told}
 use Rattle.abi_calls.specs.Fresh.{IsFreshWorld}
 use Rattle.abi_calls.specs.Sound.{IsSound}
 use Rattle.mono_model.specs.Machine.{Mono}
-use Rattle.mono_model.specs.Program.{Program, program_of}
+use Rattle.elf_loader.specs.declared.Program.{Program}
+use Rattle.mono_model.specs.Program.{program_of}
 use Rattle.mono_model.specs.Starting.{Started, Runs, NoProgram, BadProgram, boot, blank, started_if, begun_from}
 use Rattle.mono_model.specs.Turns.{End, run_of, Ending}
 use Rattle.libos_state.specs.declared.state.LibOs.{LibOs}
 use Rattle.libos_state.specs.declared.state.Boot.{Boot}
 use Rattle.libos_state.specs.declared.state.Boot.TheVariants as boots
 use Rattle.libos_state.specs.declared.cont.Cont.{Cont}
-use Rattle.libos_state.specs.declared.notes.ElfError.{ElfError}
+use Rattle.libos_state.specs.declared.notes.ProgramRefusal.{ProgramRefusal}
 use Rattle.libos_state.specs.Entered.{booting}
 use Rattle.libos_state.specs.Records.{base}
 use Rattle.libos_state.specs.Meaning.{meaning, meant, meant_idle}
@@ -151,7 +152,7 @@ pub bound_turns : (o o' o'' : Objects) (answered : ℕ) → IsFreshWorld o answe
 bound_turns o o' o'' answered fresh same after = after ∙ ap (λ n. (n + TURNS) % 2 ^ 64) (same ∙ fresh.turns)
 
 -- the file is no program
-pub bad_says : (name : List ℕ) (os' : LibOs) (o' : Objects) (t t' : Told) (cause : ElfError)
+pub bad_says : (name : List ℕ) (os' : LibOs) (o' : Objects) (t t' : Told) (cause : ProgramRefusal)
     → WhereTold t t' (λ x y. meaning os' (world_of o' y) ≡ boot start_settings x (start_job name)) → os'.cont ≡ None → os'.boot ≡ boots.BadProgram cause
     → WhereTold t t' (λ x y. y ≡ x) → WhereTold t t' (λ x y. IsNoProgram name x × (y ≡ x))
 bad_says name os' o' t t' cause start none is quiet = record {

@@ -2,7 +2,7 @@ ghost use Rattle.std.specs.Prelude.{◌≡◌};
 ghost use Rattle.bascule_top.specs.Status.{status_of};
 
 use bas_items::Items;
-use libos_state::ElfError;
+use libos_state::ProgramRefusal;
 use rv_asm::AsmCause;
 
 /// What a command that runs no program has done.
@@ -24,7 +24,7 @@ pub enum Outcome {
     /// The program of this name can't be opened.
     NoProgram(Items<u8>),
     /// The program's file is refused.
-    BadProgram(ElfError),
+    BadProgram(ProgramRefusal),
     /// The words are no command.
     BadWords,
     /// The user has no file of this name.

@@ -114,7 +114,7 @@ fn service_after(alloc: Global, cont: Cont, reply: &Reply) -> Result<Option<Cont
             Ok(Some(closing(alloc, event, rest, numbers)))
         }
         (Stage::ReadMemory, Reply::Bytes(bytes)) => {
-            let bytes = Items::from_slice(alloc, bytes.as_slice())?;
+            let bytes = bytes.clone()?;
             let numbers = Items::from_slice(alloc, &[0])?;
             let mut cont = bare(alloc, event, Stage::WriteStream);
             cont.bytes = bytes;

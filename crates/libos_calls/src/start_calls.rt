@@ -11,7 +11,7 @@ use crate::block::{block, block_address};
 use crate::calls::PIECE;
 use crate::kept::{first_items, items_from, number_at};
 use crate::program::{bytes_of_pages, count_of_pages};
-use abi_calls::{Call, Positions, Settings, StreamName};
+use abi_calls::{Call, Positions, StreamName};
 use bas_edge::Memory;
 use bas_items::Items;
 use libos_state::{Cont, LibOs, Stage};
@@ -42,22 +42,6 @@ const NO_POSITIONS: Positions = Positions {
     pick: 0,
     random: 0,
 };
-
-/// A copy of the settings.
-fn copied_settings(alloc: Global, settings: &Settings) -> Result<Settings, AllocError>
-    ensures { IfOk result (λ copy. copy ≡ settings.now) }
-{
-    let picks = Items::from_slice(alloc, settings.picks.as_slice())?;
-    let randoms = Items::from_slice(alloc, settings.randoms.as_slice())?;
-    Ok(Settings {
-        start: settings.start,
-        step: settings.step,
-        salt: settings.salt,
-        slice: settings.slice,
-        picks,
-        randoms,
-    })
-}
 
 /// The end of the console that is opened next.
 fn console_name(opened: usize) -> StreamName
@@ -120,7 +104,7 @@ fn asked_reading(os: &LibOs, alloc: Global, cont: &Cont) -> Result<Call, Memory>
     let file = number_at(cont.handles.as_slice(), 3);
     match cont.stage {
         Stage::Configure => {
-            let settings = copied_settings(alloc, &os.settings)?;
+            let settings = os.settings.clone()?;
             Ok(Call::Configure {
                 settings,
                 positions: NO_POSITIONS,

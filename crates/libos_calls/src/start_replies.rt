@@ -15,7 +15,8 @@ use abi_calls::Reply;
 use bas_edge::Memory;
 use bas_items::Items;
 use libos_state::{
-    Boot, Cont, Description, DescriptorNote, ElfError, Kind, LibOs, ProcessNote, Stage, ThreadNote,
+    Boot, Cont, Description, DescriptorNote, Kind, LibOs, ProcessNote, ProgramRefusal, Stage,
+    ThreadNote,
 };
 use std::alloc::{AllocError, Global};
 
@@ -287,7 +288,7 @@ fn file_closed(os: &mut LibOs, alloc: Global, mut cont: Cont) -> Result<(), Allo
     ensures { OnOk result (os.new ≡ spec.loads os.old cont (is_plain cont.bytes)) }
 {
     if !is_program(alloc, cont.bytes.as_slice())? {
-        os.boot = Boot::BadProgram(ElfError::Later);
+        os.boot = Boot::BadProgram(ProgramRefusal::Later);
         return Ok(());
     }
     cont.handles = Items::from_slice(alloc, first_items(cont.handles.as_slice(), CONSOLES))?;

@@ -1,5 +1,5 @@
 -- A start begins in a world without objects, and ends when its thread becomes ready: the library OS is up.
-use Rattle.std.specs.Prelude.{◌≡◌, ◌≢◌, ℕ, ◌≤◌, bit_and, Bool, true, false, not, ◌||◌, ◌==◌, if◌then◌else◌, nat_le, List, [], ◌∷◌, ◌++◌, length, slice_index, is_some, filter_map}
+use Rattle.std.specs.Prelude.{◌≡◌, ◌≢◌, ℕ, ◌≤◌, bit_and, Bool, true, false, not, ◌==◌, if◌then◌else◌, nat_le, List, [], ◌∷◌, ◌++◌, length, slice_index, is_some, filter_map}
 use Rattle.std.specs.List.{list_all}
 use Rattle.std.specs.Option.{option_map}
 use Rattle.std.specs.Ordering.{nat_cmp}
@@ -10,19 +10,20 @@ use Rattle.std.proofs.Common.{refl, sym, ap, ◌∙◌, subst, arith, eq-eqb, ne
 use Rattle.std.proofs.lemmas.Bool.{and_from, or_from}
 use Rattle.std.proofs.lemmas.Option.{none-some, same_Some}
 use Rattle.bas_names.specs.declared.StreamName.TheVariants as stream
-use Rattle.turn_sched.specs.Lists.{contains, is_at, is_resting, without, other_than}
-use Rattle.turn_sched.proofs.ThreadLists.{AreEmpty, AreEmpty-nowhere}
+use Rattle.turn_sched.specs.Lists.{without, other_than}
 use Rattle.abi_calls.specs.declared.object.Object.TheVariants.{Event, Stream}
 use Rattle.abi_calls.specs.declared.reply.Reply.{Reply}
 use Rattle.abi_calls.specs.declared.reply.Reply.TheVariants.{Done}
 use Rattle.abi_calls.specs.declared.settings.Settings.{Settings}
-use Rattle.abi_calls.specs.Objects.{Object, Objects, Live, running, is_some_thread, is_process, is_thread}
-use Rattle.abi_calls.specs.World.{World, with_objects, on_objects}
+use Rattle.abi_calls.specs.Objects.{Object, Objects, Live, running, is_process, is_thread}
+use Rattle.abi_calls.specs.World.{World, with_objects}
 use Rattle.abi_calls.specs.Processes.{is_acceptable}
 use Rattle.abi_calls.specs.Abi.{Abi, answer}
 use Rattle.abi_calls.specs.Sound.{IsSound}
 use Rattle.abi_calls.specs.Fresh.{IsFreshWorld}
 use Rattle.abi_calls.proofs.NumberMaps.{get_none}
+use Rattle.abi_calls.proofs.Facts.{AreEmpty-no_objects}
+use Rattle.abi_calls.proofs.Worked.{resume_suspended}
 use Rattle.mono_model.specs.Starting.{Runs, begun, boot}
 use Rattle.libos_state.specs.declared.cont.Cont.{Cont}
 use Rattle.libos_state.specs.declared.cont.Stage.TheVariants.{StartThread}
@@ -39,7 +40,7 @@ use Rattle.libos_state.specs.Meaning.{unstarted, child_memory, child_context}
 use Rattle.libos_state.specs.Fits.{FitsStage, FitsEvent, FitsRecords, IsStream, Opened, Closable, is_closable, NoneLive, passes}
 use Rattle.libos_state.proofs.Holds.{Holds}
 use Rattle.libos_state.proofs.Keeping.{Stands, by_row}
-use Rattle.libos_state.proofs.Resuming.{resumed_objects, row_resumed}
+use Rattle.libos_state.proofs.Resuming.{resumed_objects}
 
 -- ---- the start of a run
 
@@ -54,16 +55,11 @@ pub record CanBoot (program : List ℕ) (args : List (List ℕ)) (settings : Set
 none_in : (test : Object → Bool) (live : Live) → live ≡ empty → NoneLive test live
 none_in test live none = λ q. ap (λ (m : Live). passes test (get {R = nat_cmp} m q)) none ∙ ap (passes test) (get_none q)
 
--- A sound world without objects has no threads.
-no_threads : (o : Objects) → IsSound o → o.live ≡ empty → AreEmpty o.lists
-no_threads o sound none =
-    AreEmpty-nowhere o.lists (λ t. sound.standing t ∙ ap (λ b. if b then 1 else 0) (ap (λ (m : Live). is_some_thread (get {R = nat_cmp} m t)) none ∙ ap is_some_thread (get_none t)))
-
 -- In a world where nothing was done the library OS that begins fits, and stands for the machine's start.
 pub boot_fits : (program : List ℕ) (args : List (List ℕ)) (settings : Settings) (w : World) (answered : ℕ) → CanBoot program args settings → IsFreshWorld w.objects answered → IsSound w.objects →
     Stands (booting program args settings) w (boot settings w.contents (record { name = program; args = program ∷ args }))
 boot_fits program args settings w answered can fresh sound =
-    let lists = no_threads w.objects sound fresh.live in
+    let lists = AreEmpty-no_objects w.objects sound fresh.live in
     let few = can.few in
     record {
       fits = record {
@@ -90,10 +86,6 @@ boot_fits program args settings w answered can fresh sound =
     }
 
 -- ---- its end: the thread becomes ready
-
-rests : (o : Objects) (t : ℕ) → o.lists.suspended ≡ t ∷ [] → is_resting o.lists t ≡ true
-rests o t suspended =
-    ap (λ ts. contains ts t || is_at t o.lists.current) suspended ∙ ap (λ b. (b || false) || is_at t o.lists.current) (eq-eqb t t refl)
 
 none_rests : (t : ℕ) (suspended : List ℕ) → suspended ≡ t ∷ [] → without suspended t ≡ []
 none_rests t suspended is = ap (λ ts. without ts t) is ∙ ap (λ b. if not b then t ∷ [] else []) (eq-eqb t t refl)
@@ -176,7 +168,7 @@ keeps_start_thread os c w w' r fits sound abi =
     let process : ProcessNote = record { pid = 1; handle = file_or_child c; code = None; descriptors = console_descriptors } in
     let thread : ThreadNote = record { tid = 1; pid = 1; handle = t; event = handle c 5 } in
     let row : answer w (asked os c StartThread) r ≡ (Done, with_objects w (resumed_objects w.objects t)) =
-    ap (on_objects w) (row_resumed w.objects t (file_or_child c) fits.thread.context fits.thread.thread (rests w.objects t fits.thread.suspended)) in
+    resume_suspended w t (file_or_child c) fits.thread.context r fits.thread.thread fits.thread.suspended in
     let records = begun_records os c w.objects fits in
     by_row os c StartThread w w' r (Done, with_objects w (resumed_objects w.objects t)) abi row
     (record {

@@ -16,6 +16,7 @@ use Rattle.abi_calls.specs.Processes.{close_row, process_exit_row, without_threa
 use Rattle.abi_calls.specs.Abi.{Abi}
 use Rattle.abi_calls.specs.Sound.{IsSound}
 use Rattle.abi_calls.proofs.NumberMaps.{get_same}
+use Rattle.abi_calls.proofs.SoundChanges.{object_at-left}
 use Rattle.mono_model.specs.Starting.{Runs}
 use Rattle.libos_state.specs.declared.cont.Cont.{Cont}
 use Rattle.libos_state.specs.declared.cont.Stage.TheVariants.{CloseHandles, ExitProcess}
@@ -30,7 +31,6 @@ use Rattle.libos_state.proofs.Rows.{holds_by}
 use Rattle.libos_state.proofs.Bases.{base_over}
 use Rattle.libos_state.proofs.Served.{Running, running_of, apart, closable_no_thread, closable_no_process}
 use Rattle.libos_state.proofs.Idle.{exit_code_is, fits_up}
-use Rattle.libos_state.proofs.Keeping.{object_at-without_handles}
 
 -- What the end of a process keeps of the objects.
 pub record KeepsEnding (o o' : Objects) (process thread : ℕ) : Type 0 where
@@ -97,7 +97,7 @@ closable_without : (o : Objects) (h : ℕ) (hs : List ℕ) → contains hs h ≡
 closable_without o h [] absent closable = tt
 closable_without o h (x ∷ xs) absent closable =
     let parts = or_parts (x == h) (contains xs h) absent in
-    (ap is_closable (object_at-without_handles o (λ k. k == h) x parts.0) ∙ closable.0, closable.1, closable_without o h xs parts.1 closable.2)
+    (ap is_closable (object_at-left o (λ k. k == h) x parts.0) ∙ closable.0, closable.1, closable_without o h xs parts.1 closable.2)
 
 module _ (os : LibOs) (c : Cont) (w : World) (fits : FitsEnding os w.objects c) (h : ℕ) (closable : is_closable (object_at w.objects h) ≡ true) where
   abbrev closed_objects : Objects
@@ -113,8 +113,8 @@ module _ (os : LibOs) (c : Cont) (w : World) (fits : FitsEnding os w.objects c) 
 
   closed_keeps : KeepsEnding w.objects closed_objects fits.upcall.process fits.upcall.thread
   closed_keeps = record {
-    process_stays = object_at-without_handles w.objects (λ k. k == h) fits.upcall.process (ne_eqb fits.upcall.process h process_apart);
-    thread_stays = object_at-without_handles w.objects (λ k. k == h) fits.upcall.thread (ne_eqb fits.upcall.thread h thread_apart);
+    process_stays = object_at-left w.objects (λ k. k == h) fits.upcall.process (ne_eqb fits.upcall.process h process_apart);
+    thread_stays = object_at-left w.objects (λ k. k == h) fits.upcall.thread (ne_eqb fits.upcall.thread h thread_apart);
     ready = ap (filter (λ k. not (k == h))) fits.ready;
     suspended = ap (filter (λ k. not (k == h))) fits.suspended;
     current = ap (unless_ended (λ k. k == h)) fits.current ∙ cond-false (fits.upcall.thread == h) None (Some fits.upcall.thread) (ne_eqb fits.upcall.thread h thread_apart);

@@ -12,7 +12,7 @@ use Rattle.abi_calls.specs.declared.call.Call.{Call}
 use Rattle.abi_calls.specs.declared.object.Object.TheVariants.{Process, Thread}
 use Rattle.abi_calls.specs.declared.reply.Reply.{Reply}
 use Rattle.abi_calls.specs.declared.reply.Reply.TheVariants.{Handle}
-use Rattle.abi_calls.specs.Objects.{Object, Objects, Live, object_at, number_of, is_process, is_thread, without_handles, IsFresh}
+use Rattle.abi_calls.specs.Objects.{Object, Objects, Live, number_of, is_process, is_thread, without_handles, IsFresh}
 use Rattle.abi_calls.specs.World.{World, Answer}
 use Rattle.abi_calls.specs.Processes.{is_running}
 use Rattle.abi_calls.specs.Abi.{Abi, IsFreeChoice, answer}
@@ -48,10 +48,6 @@ fresh_handle w w' call r h made abi row =
 -- An object stays where another comes at a number of none.
 pub object_kept : (live : Live) (h a : ℕ) (x y : Object) → get {R = nat_cmp} live h ≡ None → get {R = nat_cmp} live a ≡ Some x → get {R = nat_cmp} (insert live h y) a ≡ Some x
 object_kept live h a x y free there = get_other live h y a (λ same. none-some x (sym free ∙ ap (get {R = nat_cmp} live) (sym same) ∙ there)) ∙ there
-
--- An object stays where others end.
-pub object_at-without_handles : (o : Objects) (ends : ℕ → Bool) (q : ℕ) → ends q ≡ false → object_at (without_handles o ends) q ≡ object_at o q
-object_at-without_handles o ends q stays = get_kept o.live (λ k. not (ends k)) q ∙ ap (λ b. cond (not b) (object_at o q) None) stays
 
 -- No object passes a test: also where one comes that doesn't, or some go.
 module _ (test : Object → Bool) where

@@ -17,6 +17,7 @@ use Rattle.abi_calls.specs.Streams.{stream_of, stream_length_row, stream_read_ro
 use Rattle.abi_calls.specs.Processes.{close_row}
 use Rattle.abi_calls.specs.Abi.{Abi, answer, is_file}
 use Rattle.abi_calls.specs.Sound.{IsSound}
+use Rattle.abi_calls.proofs.SoundChanges.{object_at-left}
 use Rattle.mono_model.specs.Program.{is_plain, plain_program}
 use Rattle.mono_model.specs.Starting.{started_with, begun_from}
 use Rattle.libos_state.specs.declared.cont.Cont.{Cont}
@@ -28,7 +29,7 @@ use Rattle.libos_state.specs.Answered.{goes_on, starting, loads}
 use Rattle.libos_state.specs.Meaning.{unstarted, name_in, program_file, meant_at}
 use Rattle.libos_state.specs.Fits.{FitsFile, FitsReading, FitsStage, IsStream, Opened}
 use Rattle.libos_state.proofs.Holds.{Holds}
-use Rattle.libos_state.proofs.Keeping.{Stands, by_row, object_at-without_handles}
+use Rattle.libos_state.proofs.Keeping.{Stands, by_row}
 use Rattle.libos_state.proofs.Starts.{unbegun_opening, unbegun_closed, opening_goes_on, opened_kept, opened_front}
 use Rattle.libos_state.proofs.Pieces.{read_and_rest, nothing_left, piece_is_all}
 
@@ -123,7 +124,7 @@ console_kept : (o : Objects) (h : ℕ) (file : List ℕ) → IsStream o.live (Fi
 console_kept o h file held a name console there =
     let apart : (a ≡ h) → ⊥ = λ same. let both : Some (Stream (File file)) ≡ Some (Stream name) = sym held ∙ ap (object_at o) (sym same) ∙ there in
     let e : File file ≡ name = cc in true≢false (ap (λ n. is_file (Some (Stream n))) e ∙ console) in
-    object_at-without_handles o (λ k. k == h) a (ne_eqb a h apart) ∙ there
+    object_at-left o (λ k. k == h) a (ne_eqb a h apart) ∙ there
 
 closed_stands : (os : LibOs) (c : Cont) (w : World) (plain : Bool) → FitsFile os w.objects c → is_plain c.bytes ≡ plain →
     Stands (loads os c plain) (with_objects w (without_handles w.objects (λ k. k == file_or_child c))) (started_with (unstarted w) (arguments c) c.bytes)

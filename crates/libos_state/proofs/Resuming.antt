@@ -43,7 +43,7 @@ row_set o t p old new there rests = ap (thread_context_row o t new) there ∙ co
 abbrev pub resumed_objects : Objects → ℕ → Objects
 resumed_objects o t = with_lists o (with_resumed o.lists t)
 
-pub row_resumed : (o : Objects) (t p : ℕ) (context : Context) → object_at o t ≡ Some (Thread p context) → is_resting o.lists t ≡ true →
+row_resumed : (o : Objects) (t p : ℕ) (context : Context) → object_at o t ≡ Some (Thread p context) → is_resting o.lists t ≡ true →
     thread_resume_row o t (object_at o t) ≡ (Done, resumed_objects o t)
 row_resumed o t p context there rests = ap (thread_resume_row o t) there ∙ cond-true (is_resting o.lists t) (Done, resumed_objects o t) (Busy, o) rests
 

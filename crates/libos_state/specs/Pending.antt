@@ -10,7 +10,8 @@ use Rattle.abi_calls.specs.declared.settings.Positions.{Positions}
 use Rattle.abi_calls.specs.declared.threads.Upcall.{Upcall}
 use Rattle.mono_model.specs.Machine.{register}
 use Rattle.mono_model.specs.Calls.{moved}
-use Rattle.mono_model.specs.Program.{Run, plain_run, plain_program}
+use Rattle.elf_loader.specs.declared.Run.{Run}
+use Rattle.mono_model.specs.Program.{plain_run, plain_program}
 use Rattle.mono_model.specs.Starting.{pages_in, argument_block, stack_pointer, start_context, STACK_PAGE, STACK_PAGES}
 use Rattle.libos_state.specs.declared.cont.Cont.{Cont}
 use Rattle.libos_state.specs.declared.cont.Event.{Event}

@@ -7,5 +7,5 @@ mod notes;
 mod state;
 
 pub use cont::{Cont, Event, Stage};
-pub use notes::{Description, DescriptorNote, ElfError, Kind, ProcessNote, ThreadNote};
+pub use notes::{Description, DescriptorNote, Kind, ProcessNote, ProgramRefusal, ThreadNote};
 pub use state::{Boot, LibOs};

@@ -3,7 +3,7 @@ use thiserror::Error;
 
 /// Why a program file is refused.
 #[derive(Clone, Copy, Debug, PartialEq, Eq, Error)]
-pub enum ElfError {
+pub enum ProgramRefusal {
     /// The file isn't of the one form that is taken so far.
     #[error("not a program of the form that is taken so far")]
     Later,

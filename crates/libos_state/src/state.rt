@@ -1,5 +1,5 @@
 use crate::cont::Cont;
-use crate::notes::{Description, ElfError, ProcessNote, ThreadNote};
+use crate::notes::{Description, ProcessNote, ProgramRefusal, ThreadNote};
 use abi_calls::Settings;
 use bas_items::Items;
 
@@ -13,7 +13,7 @@ pub enum Boot {
     /// The program's file can't be opened.
     NoProgram,
     /// The file is no program.
-    BadProgram(ElfError),
+    BadProgram(ProgramRefusal),
 }
 
 /// The library OS: the system calls, over the host's interface.

@@ -5,18 +5,8 @@ use Rattle.std.specs.Str.{bytes_eq}
 use Rattle.std.specs.Int.{to_le_bytes, w64}
 use Rattle.std.specs.declared.option.Option.{Option}
 use Rattle.std.specs.declared.option.Option.TheVariants.{None, Some}
-
--- Adjacent pages with the same rights, and their bytes.
-pub record Run : Type 0 where
-  pub page : ℕ
-  pub rights : ℕ
-  pub bytes : List ℕ
-
--- What a program file stands for: the address of its first instruction, its pages, and the address behind them.
-pub record Program : Type 0 where
-  pub entry : ℕ
-  pub runs : List Run
-  pub end : ℕ
+use Rattle.elf_loader.specs.declared.Program.{Program}
+use Rattle.elf_loader.specs.declared.Run.{Run}
 
 -- The ELF header (e_ident, then its fields) of a file with one program header at 64 and the entry 0x10078.
 abbrev pub elf_header : List ℕ

@@ -15,7 +15,9 @@ use Rattle.abi_calls.specs.declared.settings.Positions.{Positions}
 use Rattle.abi_calls.specs.declared.settings.Settings.{Settings}
 use Rattle.abi_calls.specs.World.{Contents}
 use Rattle.mono_model.specs.Machine.{Mono, Description}
-use Rattle.mono_model.specs.Program.{Program, Run, program_of}
+use Rattle.elf_loader.specs.declared.Program.{Program}
+use Rattle.elf_loader.specs.declared.Run.{Run}
+use Rattle.mono_model.specs.Program.{program_of}
 
 -- The name of the program that is opened, and the program's arguments, of which the first is its own name.
 pub record Job : Type 0 where

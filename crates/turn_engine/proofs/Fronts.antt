@@ -15,7 +15,8 @@ use Rattle.abi_calls.specs.World.{Contents, World, world_of}
 use Rattle.mono_model.specs.Machine.{Mono, Process, Thread, register, process_at, thread_at}
 use Rattle.mono_model.specs.Calls.{Caller, WRITE, EXIT, EBADF, EFAULT, ENOSYS, error, fault_code, finished, moved, sent, write_bytes, write_unless, write_from, write_to, writable, description_of, write, ended, exit, system_call, served, memory_at}
 use Rattle.mono_model.specs.Turns.{pick_of, picked, with_memory_in, with_run, after_run, run_thread, turn_at, turn_of}
-use Rattle.mono_model.specs.Program.{Program, program_of}
+use Rattle.elf_loader.specs.declared.Program.{Program}
+use Rattle.mono_model.specs.Program.{program_of}
 use Rattle.mono_model.specs.Starting.{Job, blank, started, started_if, begun_from}
 use Rattle.libos_state.specs.declared.cont.Cont.{Cont}
 use Rattle.libos_state.specs.declared.cont.Stage.{Stage}
