@@ -2,7 +2,7 @@
 use Rattle.std.specs.Prelude.{◌≡◌, ℕ, ◌+◌, ◌-◌, ◌^◌, Bool, true, false, min, List, [], ◌∷◌, ◌++◌}
 use Rattle.std.specs.Option.{option_map}
 use Rattle.std.specs.declared.option.Option.{Option}
-use Rattle.std.specs.declared.option.Option.TheVariants.{None, Some}
+use Rattle.std.specs.declared.option.Option.TheVariants.{Some}
 use Rattle.bas_names.specs.declared.StreamName.TheVariants.{File}
 use Rattle.abi_calls.specs.declared.call.Call.{Call}
 use Rattle.abi_calls.specs.declared.call.Call.TheVariants.{MemoryAllocate, MemoryProtect, MemoryRead, MemoryWrite, ThreadCreate, ThreadResume, ThreadContext, EventCreate, StreamOpen, StreamRead, StreamWrite, StreamLength, Close, ProcessCreate, ProcessExit, Configure}
@@ -22,31 +22,44 @@ abbrev pub new_number : Reply → ℕ
 new_number (Handle h) = h
 new_number _ = 0
 
--- What a call answers from the objects alone; of what is no stream, calls on streams answer BadHandle.
+-- What a call answers from the objects alone; of what is no stream, calls on streams answer
+-- BadHandle.
 abbrev pub object_row : Objects → Call → Reply → Reply × Objects
-object_row o (MemoryAllocate process page count rights) r = memory_allocate_row o process page count rights (running (object_at o process))
-object_row o (MemoryProtect process page count rights) r = memory_protect_row o process page count rights (running (object_at o process))
-object_row o (MemoryRead process address count) r = memory_read_row o address count (running (object_at o process))
-object_row o (MemoryWrite process address bytes) r = memory_write_row o process address bytes (running (object_at o process))
-object_row o (ThreadCreate process context) r = thread_create_row o process context (running (object_at o process)) (new_number r)
+object_row o (MemoryAllocate process page count rights) r =
+    memory_allocate_row o process page count rights (running (object_at o process))
+object_row o (MemoryProtect process page count rights) r =
+    memory_protect_row o process page count rights (running (object_at o process))
+object_row o (MemoryRead process address count) r =
+    memory_read_row o address count (running (object_at o process))
+object_row o (MemoryWrite process address bytes) r =
+    memory_write_row o process address bytes (running (object_at o process))
+object_row o (ThreadCreate process context) r =
+    thread_create_row o process context (running (object_at o process)) (new_number r)
 object_row o (ThreadResume thread) r = thread_resume_row o thread (object_at o thread)
-object_row o (ThreadContext thread context) r = thread_context_row o thread context (object_at o thread)
+object_row o (ThreadContext thread context) r =
+    thread_context_row o thread context (object_at o thread)
 object_row o EventCreate r = event_create_row o (new_number r)
 object_row o (Close handle) r = close_row o handle (object_at o handle)
 object_row o ProcessCreate r = process_create_row o (new_number r)
-object_row o (ProcessExit process code) r = process_exit_row o process code (running (object_at o process))
+object_row o (ProcessExit process code) r =
+    process_exit_row o process code (running (object_at o process))
 object_row o (Configure settings positions) r = configure_row o settings positions
 object_row o _ r = (BadHandle, o)
 
--- The answer to a call. The one thing that a host chooses, the number of a new object, is read off its reply.
+-- The answer to a call. The one thing that a host chooses, the number of a new object, is read off
+-- its reply.
 abbrev pub answer : World → Call → Reply → Answer
-answer w (StreamOpen name create exclusive) r = stream_open_row w name create exclusive (new_number r)
-answer w (StreamRead stream offset count) r = stream_read_row w offset count r (object_at w.objects stream)
-answer w (StreamWrite stream offset bytes) r = stream_write_row w offset bytes r (object_at w.objects stream)
+answer w (StreamOpen name create exclusive) r =
+    stream_open_row w name create exclusive (new_number r)
+answer w (StreamRead stream offset count) r =
+    stream_read_row w offset count r (object_at w.objects stream)
+answer w (StreamWrite stream offset bytes) r =
+    stream_write_row w offset bytes r (object_at w.objects stream)
 answer w (StreamLength stream) r = stream_length_row w (object_at w.objects stream)
 answer w call r = on_objects w (object_row w.objects call r)
 
--- The calls that reach the contents of the outside: those on a stream that is a file or an end of the console.
+-- The calls that reach the contents of the outside: those on a stream that is a file or an end of
+-- the console.
 abbrev pub is_stream : Option Object → Bool
 is_stream (Some (Stream name)) = true
 is_stream _ = false
@@ -73,14 +86,15 @@ abbrev pub IsFreeChoice : World → Call → Reply → Type 0
 IsFreeChoice w call (Handle h) = IsFresh w.objects h
 IsFreeChoice w call _ = Unit {0}
 
--- A host answers a call by a reply and leaves another world. Apart from what it chooses, the reply and the new world
--- are fixed.
+-- A host answers a call by a reply and leaves another world. Apart from what it chooses, the reply
+-- and the new world are fixed.
 pub record Abi (w : World) (call : Call) (reply : Reply) (w' : World) : Type 0 where
   pub choice : IsFreeChoice w call reply
   pub row : answer w call reply ≡ (reply, w')
 
 -- The same, for some contents that are as the host tells, before and after.
-pub record Answers (o : Objects) (told : Told) (call : Call) (reply : Reply) (o' : Objects) (told' : Told) : Type 0 where
+pub record Answers (o : Objects) (told : Told) (call : Call) (reply : Reply)
+    (o' : Objects) (told' : Told) : Type 0 where
   pub before : Contents
   pub after : Contents
   pub was : Tells told before

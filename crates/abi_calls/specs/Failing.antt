@@ -29,8 +29,9 @@ pub record IsPartTaken (old now rest : Option (List ℕ)) : Type 0 where
   pub missing : ℕ
   pub then : rest ≡ without_front now missing
 
--- A part was done of what leads from one told state to another: some first bytes of what is written were written,
--- some first bytes of what is taken were taken, and the files are those before or those after.
+-- A part was done of what leads from one told state to another: some first bytes of what is written
+-- were written, some first bytes of what is taken were taken, and the files are those before or
+-- those after.
 pub record IsPartDone (old now whole : Told) : Type 0 where
   pub output : IsPartWritten old.output now.output whole.output
   pub errors : IsPartWritten old.errors now.errors whole.errors

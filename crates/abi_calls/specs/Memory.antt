@@ -29,7 +29,8 @@ memory_allocate_row o p page count rights (Some s) =
 abbrev pub memory_protect_row : Objects → ℕ → ℕ → ℕ → ℕ → Option Space → Reply × Objects
 memory_protect_row o p page count rights None = (BadHandle, o)
 memory_protect_row o p page count rights (Some s) =
-    if count == 0 || (is_some (first_missing s page count) || nat_lt ALL_RIGHTS rights) then (BadAddress, o)
+    if count == 0 || (is_some (first_missing s page count) || nat_lt ALL_RIGHTS rights)
+    then (BadAddress, o)
     else (Done, with_pages o p (protected s page count rights))
 
 -- An access is granted, or its first byte that isn't there or lacks the right decides.
@@ -43,7 +44,8 @@ abbrev pub memory_read_row : Objects → ℕ → ℕ → Option Space → Reply 
 memory_read_row o address count None = (BadHandle, o)
 memory_read_row o address count (Some s) =
     if nat_lt MOST_BYTES count then (TooBig, o)
-    else unless_fault o (first_fault (memory_of s) READ_RIGHT address count) (Bytes (bytes_from (memory_of s) address count), o)
+    else unless_fault o (first_fault (memory_of s) READ_RIGHT address count)
+    (Bytes (bytes_from (memory_of s) address count), o)
 
 -- MemoryWrite: up to 65,536 bytes, each with the right to write.
 abbrev pub memory_write_row : Objects → ℕ → ℕ → List ℕ → Option Space → Reply × Objects

@@ -1,5 +1,6 @@
--- The objects of a world: what each handle names, the pipes, the lists of threads, the positions and the settings.
-use Rattle.std.specs.Prelude.{◌≡◌, ℕ, ◌+◌, ◌%◌, ◌^◌, ◌≤◌, ◌==◌, Bool, true, false, ◌||◌, not, if◌then◌else◌, List, [], count_by, unwrap_or}
+-- The objects of a world: what each handle names, the pipes, the lists of threads, the positions
+-- and the settings.
+use Rattle.std.specs.Prelude.{◌≡◌, ℕ, ◌+◌, ◌%◌, ◌^◌, ◌≤◌, ◌==◌, Bool, true, false, ◌||◌, not, List, [], count_by, unwrap_or}
 use Rattle.std.specs.List.{list_any}
 use Rattle.std.specs.Ordering.{nat_cmp}
 use Rattle.std.specs.FinMap.{FinMap, get, insert, values, retain_keys}
@@ -8,7 +9,7 @@ use Rattle.std.specs.declared.option.Option.TheVariants.{None, Some}
 use Rattle.guest_space.specs.Space.{Space}
 use Rattle.turn_sched.specs.Lists.{Waiting, Lists, without_numbers, mentions_number}
 use Rattle.abi_calls.specs.declared.object.Object as objects
-use Rattle.abi_calls.specs.declared.object.Object.TheVariants.{Process, Thread, Event, Stream, ReadEnd, WriteEnd}
+use Rattle.abi_calls.specs.declared.object.Object.TheVariants.{Process, Thread, ReadEnd, WriteEnd}
 use Rattle.abi_calls.specs.declared.settings.Positions.{Positions}
 use Rattle.abi_calls.specs.declared.settings.Settings.{Settings}
 

@@ -32,7 +32,8 @@ without_threads o p = without_handles o (λ k. is_thread_of p (object_at o k))
 -- ProcessExit: the memory and the threads of a running process end.
 abbrev pub process_exit_row : Objects → ℕ → ℕ → Option Space → Reply × Objects
 process_exit_row o p code None = (BadHandle, o)
-process_exit_row o p code (Some s) = (Done, with_object (without_threads o p) p (Process empty (Some code)))
+process_exit_row o p code (Some s) =
+    (Done, with_object (without_threads o p) p (Process empty (Some code)))
 
 abbrev pub is_running : Object → Bool
 is_running x = is_some (running (Some x))
@@ -40,7 +41,8 @@ is_running x = is_some (running (Some x))
 -- Settings that a host takes.
 abbrev pub is_acceptable : Settings → Bool
 is_acceptable s =
-    nat_lt 0 s.slice && (nat_le s.slice MOST_SLICE && (nat_le (length s.picks) MOST_WORDS && nat_le (length s.randoms) MOST_WORDS))
+    nat_lt 0 s.slice && (nat_le s.slice MOST_SLICE &&
+    (nat_le (length s.picks) MOST_WORDS && nat_le (length s.randoms) MOST_WORDS))
 
 -- Configure: before the first turn, and while no process runs.
 abbrev pub configure_row : Objects → Settings → Positions → Reply × Objects

@@ -32,14 +32,17 @@ refusal_of Empty = NotFound
 abbrev pub call_named : Option (List ℕ) → (List ℕ → Call) → Result Call NameFault
 call_named None call = Err Denied
 call_named (Some name) call =
-    if nat_lt LONGEST_NAME (length name) then Err TooLong else (if length name == 0 then Err Empty else Ok (call name))
+    if nat_lt LONGEST_NAME (length name) then Err TooLong
+    else (if length name == 0 then Err Empty else Ok (call name))
 
 -- A call behind one list of rules: a file's name alone is changed.
 abbrev pub call_behind : List Rule → Call → Result Call NameFault
-call_behind rules (StreamOpen (File name) create exclusive) = call_named (passed rules name) (λ n. StreamOpen (File n) create exclusive)
+call_behind rules (StreamOpen (File name) create exclusive) =
+    call_named (passed rules name) (λ n. StreamOpen (File n) create exclusive)
 call_behind rules call = Ok call
 
-abbrev pub unless_ended_at : (Call → Result Call NameFault) → Result Call NameFault → Result Call NameFault
+abbrev pub unless_ended_at : (Call → Result Call NameFault) → Result Call NameFault
+    → Result Call NameFault
 unless_ended_at next (Ok call) = next call
 unless_ended_at next (Err fault) = Err fault
 
@@ -53,11 +56,13 @@ pub record Face : Type 0 where
   pub rules : List (List Rule)
   pub objects : Objects
 
-abbrev pub AnswersBelow : Objects → Contents → Result Call NameFault → Reply → Objects → Contents → Type 0
+abbrev pub AnswersBelow : Objects → Contents → Result Call NameFault → Reply → Objects → Contents
+    → Type 0
 AnswersBelow o x (Ok call) reply o' y = Abi (world_of o x) call reply (world_of o' y)
 AnswersBelow o x (Err fault) reply o' y = (reply ≡ refusal_of fault) × (o' ≡ o) × (y ≡ x)
 
 -- A call is answered below all lists, or refused by the name's end.
-pub record AnswersThrough (f : Face) (x : Contents) (call : Call) (reply : Reply) (f' : Face) (y : Contents) : Type 0 where
+pub record AnswersThrough (f : Face) (x : Contents) (call : Call) (reply : Reply)
+    (f' : Face) (y : Contents) : Type 0 where
   pub rules : f'.rules ≡ f.rules
   pub below : AnswersBelow f.objects x (call_below f.rules call) reply f'.objects y

@@ -10,7 +10,7 @@ use Rattle.abi_calls.specs.declared.object.Object.TheVariants.{Stream}
 use Rattle.abi_calls.specs.declared.reply.Reply.{Reply}
 use Rattle.abi_calls.specs.declared.reply.Reply.TheVariants.{Done, Handle, Bytes, Count, Length, BadHandle, NotFound, Exists, NoAccess, TooBig}
 use Rattle.abi_calls.specs.Objects.{Object, with_object}
-use Rattle.abi_calls.specs.World.{World, Contents, Answer, with_objects, with_files, on_contents, on_files}
+use Rattle.abi_calls.specs.World.{World, Contents, Answer, with_files, on_contents, on_files}
 
 -- A name of 1 to 80 bytes.
 abbrev pub is_name : List ℕ → Bool
@@ -27,7 +27,8 @@ abbrev pub stream_of : Option Object → Option StreamName
 stream_of (Some (Stream name)) = Some name
 stream_of _ = None
 
--- A file that isn't there is made where that is asked; one that is there is refused where only a new one is wanted.
+-- A file that isn't there is made where that is asked; one that is there is refused where only a
+-- new one is wanted.
 abbrev pub open_found : Files → List ℕ → Bool → Bool → Option (List ℕ) → Reply × Files
 open_found files name create exclusive None =
     if create then (Done, with_file name [] files) else (NotFound, files)
@@ -41,30 +42,39 @@ file_open_row files name create exclusive =
 
 -- What can be opened gets a new handle.
 abbrev pub open_answer : World → StreamName → ℕ → Files → Reply → Answer
-open_answer w name h files Done =
-    (Handle h, record { objects = with_object w.objects h (Stream name); contents = with_files w.contents files })
+open_answer w name h files Done = (
+  Handle h,
+  record {
+    objects = with_object w.objects h (Stream name);
+    contents = with_files w.contents files;
+  },
+)
 open_answer w name h files refusal = (refusal, w)
 
 -- StreamOpen; the console never refuses.
 abbrev pub stream_open_row : World → StreamName → Bool → Bool → ℕ → Answer
 stream_open_row w (File name) create exclusive h =
-    let row = file_open_row w.contents.files name create exclusive in open_answer w (File name) h row.1 row.0
+    let row = file_open_row w.contents.files name create exclusive in
+    open_answer w (File name) h row.1 row.0
 stream_open_row w console create exclusive h = open_answer w console h w.contents.files Done
 
 -- StreamRead of a file: its bytes from the offset on.
 abbrev pub file_read_row : Files → List ℕ → ℕ → ℕ → Reply × Files
-file_read_row files name offset count = (Bytes (take count (drop offset (file_bytes files name))), files)
+file_read_row files name offset count =
+    (Bytes (take count (drop offset (file_bytes files name))), files)
 
 -- What a stream gives: the console input its front, which is taken away.
 abbrev pub read_row : Contents → ℕ → ℕ → StreamName → Reply × Contents
 read_row x offset count (File name) = on_files x (file_read_row x.files name offset count)
-read_row x offset count ConIn = (Bytes (take count x.input), record x { input = drop count x.input })
+read_row x offset count ConIn =
+    (Bytes (take count x.input), record x { input = drop count x.input })
 read_row x offset count _ = (NoAccess, x)
 
 -- StreamRead: up to 65,536 bytes. Hosts will choose how many, which the reply then says.
 abbrev pub stream_read_row : World → ℕ → ℕ → Reply → Option Object → Answer
 stream_read_row w offset count reply (Some (Stream name)) =
-    if nat_lt MOST_BYTES count then (TooBig, w) else on_contents w (read_row w.contents offset count name)
+    if nat_lt MOST_BYTES count then (TooBig, w)
+    else on_contents w (read_row w.contents offset count name)
 stream_read_row w offset count reply _ = (BadHandle, w)
 
 -- StreamWrite to a file: from the offset on, a gap past its end filled with zeros, up to 16 MiB.
@@ -83,7 +93,8 @@ write_row x offset bytes ConErr = (Count (length bytes), record x { errors = x.e
 -- StreamWrite: up to 65,536 bytes. Hosts will choose how many, which the reply then says.
 abbrev pub stream_write_row : World → ℕ → List ℕ → Reply → Option Object → Answer
 stream_write_row w offset bytes reply (Some (Stream name)) =
-    if nat_lt MOST_BYTES (length bytes) then (TooBig, w) else on_contents w (write_row w.contents offset bytes name)
+    if nat_lt MOST_BYTES (length bytes) then (TooBig, w)
+    else on_contents w (write_row w.contents offset bytes name)
 stream_write_row w offset bytes reply _ = (BadHandle, w)
 
 -- StreamLength of a file.

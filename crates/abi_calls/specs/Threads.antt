@@ -13,13 +13,15 @@ use Rattle.abi_calls.specs.Objects.{Object, Objects, number_of, is_thread, with_
 
 -- The objects with a new thread, the last of the suspended ones.
 abbrev pub with_thread : Objects → ℕ → ℕ → Context → Objects
-with_thread o h p context = with_lists (with_object o h (Thread p context)) (with_suspended o.lists h)
+with_thread o h p context =
+    with_lists (with_object o h (Thread p context)) (with_suspended o.lists h)
 
 -- ThreadCreate: a suspended thread of a running process; 64 live threads at most.
 abbrev pub thread_create_row : Objects → ℕ → Context → Option Space → ℕ → Reply × Objects
 thread_create_row o p context None h = (BadHandle, o)
 thread_create_row o p context (Some s) h =
-    if nat_le MOST_THREADS (number_of is_thread o.live) then (NoRoom, o) else (Handle h, with_thread o h p context)
+    if nat_le MOST_THREADS (number_of is_thread o.live) then (NoRoom, o)
+    else (Handle h, with_thread o h p context)
 
 -- ThreadResume: a thread that rests joins the end of the ready list.
 abbrev pub thread_resume_row : Objects → ℕ → Option Object → Reply × Objects

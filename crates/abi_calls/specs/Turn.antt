@@ -1,5 +1,5 @@
 -- A turn: waiting threads are woken, one ready thread is picked, and it does its instructions.
-use Rattle.std.specs.Prelude.{ℕ, ◌+◌, ◌*◌, ◌%◌, ◌^◌, Bool, true, false, ◌||◌, not, if◌then◌else◌, nat_le, nat_lt, List, [], ◌∷◌, length, is_some, slice_index, slice_get}
+use Rattle.std.specs.Prelude.{ℕ, ◌+◌, ◌*◌, ◌%◌, ◌^◌, Bool, true, false, ◌||◌, not, if◌then◌else◌, nat_le, nat_lt, List, [], length, is_some, slice_index, slice_get}
 use Rattle.std.specs.List.{list_any}
 use Rattle.std.specs.declared.option.Option.{Option}
 use Rattle.std.specs.declared.option.Option.TheVariants.{None, Some}
@@ -17,8 +17,9 @@ abbrev pub is_no_byte : List ℕ → Bool
 is_no_byte [] = true
 is_no_byte _ = false
 
--- What a thread may wait for is signalled: an object that is gone; an exited process; an event that is set; the read
--- end of a pipe that holds a byte or has no write end; the write end of one that has room or no read end.
+-- What a thread may wait for is signalled: an object that is gone; an exited process; an event that
+-- is set; the read end of a pipe that holds a byte or has no write end; the write end of one that
+-- has room or no read end.
 abbrev pub is_signalled_object : Objects → Option Object → Bool
 is_signalled_object o None = true
 is_signalled_object o (Some (Process memory code)) = is_some code
@@ -49,13 +50,17 @@ abbrev pub with_due_ready : Objects → Objects
 with_due_ready o = with_lists o (with_woken (λ w. w.thread) (is_due o) o.lists)
 
 abbrev pub with_turn : Objects → Objects
-with_turn o = record o { positions = record o.positions { turns = next_position o.positions.turns } }
+with_turn o =
+    record o { positions = record o.positions { turns = next_position o.positions.turns } }
 
--- Second: where no thread is ready, time passes if one waits for a time, and else nothing will happen.
+-- Second: where no thread is ready, time passes if one waits for a time, and else nothing will
+-- happen.
 abbrev pub idle_turn : Objects → Turned × Objects
-idle_turn o = if list_any (λ w. is_some w.deadline) o.lists.waiting then (Idle, with_turn o) else (Stuck, o)
+idle_turn o =
+    if list_any (λ w. is_some w.deadline) o.lists.waiting then (Idle, with_turn o) else (Stuck, o)
 
--- Third: the next word of the tape, 0 past its end, picks a place of the ready list, modulo how many are ready.
+-- Third: the next word of the tape, 0 past its end, picks a place of the ready list, modulo how
+-- many are ready.
 abbrev pub pick_word : Objects → ℕ
 pick_word o = slice_index o.settings.picks o.positions.pick
 
@@ -66,10 +71,14 @@ pick_of o = picked_place (pick_word o) o.lists
 abbrev pub with_pick : Objects → ℕ → Objects
 with_pick o place = record o {
   lists = without_place o.lists place;
-  positions = record o.positions { turns = next_position o.positions.turns; pick = next_position o.positions.pick };
+  positions = record o.positions {
+    turns = next_position o.positions.turns;
+    pick = next_position o.positions.pick;
+  };
 }
 
--- Fourth: a thread did its instructions and joins the end of the ready list, or trapped and is current.
+-- Fourth: a thread did its instructions and joins the end of the ready list, or trapped and is
+-- current.
 abbrev pub run_end : Objects → ℕ → ℕ → Context → Option (ℕ × ℕ) → Turned × Objects
 run_end o t p context None = (Ran, with_lists o (with_ready o.lists t))
 run_end o t p context (Some trap) = (
@@ -78,7 +87,8 @@ run_end o t p context (Some trap) = (
 )
 
 abbrev pub with_run_of : Objects → ℕ → ℕ → Run → Objects
-with_run_of o t p run = with_object (with_object o p (Process run.space None)) t (Thread p run.context)
+with_run_of o t p run =
+    with_object (with_object o p (Process run.space None)) t (Thread p run.context)
 
 abbrev pub run_answer : Objects → ℕ → ℕ → Run → Turned × Objects
 run_answer o t p run = run_end (with_run_of o t p run) t p run.context run.trap
@@ -93,11 +103,12 @@ run_thread o t (Some (Thread p context)) = run_in o t p context (running (object
 run_thread o t _ = (Stuck, o)
 
 -- Where no thread is ready, nothing stands at any place of the ready list.
-abbrev pub turn_at : Objects → ℕ → Option ℕ → Turned × Objects
-turn_at o place (Some t) = run_thread (with_pick o place) t (object_at o t)
-turn_at o place None = idle_turn o
+abbrev pub turn_of_pick : Objects → ℕ → Option ℕ → Turned × Objects
+turn_of_pick o place (Some t) = run_thread (with_pick o place) t (object_at o t)
+turn_of_pick o place None = idle_turn o
 
 -- A turn of the world.
 abbrev pub world_turn : Objects → Turned × Objects
 world_turn o =
-    let awake = with_due_ready o in turn_at awake (pick_of awake) (slice_get awake.lists.ready (pick_of awake))
+    let awake = with_due_ready o in
+    turn_of_pick awake (pick_of awake) (slice_get awake.lists.ready (pick_of awake))

@@ -1,14 +1,14 @@
 -- A world: its objects, and the contents of the outside; and what a host tells of it.
 use Rattle.std.specs.Prelude.{◌≡◌, ℕ, List, [], IfSome, is_some, unwrap_or}
 use Rattle.std.specs.FinMap.{empty}
-use Rattle.std.specs.Option.{option_map}
 use Rattle.std.specs.declared.option.Option.{Option}
 use Rattle.std.specs.declared.option.Option.TheVariants.{None, Some}
 use Rattle.bas_edge.specs.Files.{Files}
 use Rattle.abi_calls.specs.declared.reply.Reply.{Reply}
 use Rattle.abi_calls.specs.Objects.{Objects}
 
--- The files by name, the console input that isn't read yet, and all that was written to the console.
+-- The files by name, the console input that isn't read yet, and all that was written to the
+-- console.
 pub record Contents : Type 0 where
   pub files : Files
   pub input : List ℕ
@@ -77,7 +77,8 @@ some_contents told = record {
 }
 
 -- The contents, where each part is told.
-abbrev pub whole_of : Option Files → Option (List ℕ) → Option (List ℕ) → Option (List ℕ) → Option Contents
+abbrev pub whole_of : Option Files → Option (List ℕ) → Option (List ℕ) → Option (List ℕ)
+    → Option Contents
 whole_of (Some files) (Some input) (Some output) (Some errors) =
     Some (record { files = files; input = input; output = output; errors = errors })
 whole_of _ _ _ _ = None

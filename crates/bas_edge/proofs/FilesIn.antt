@@ -1,5 +1,5 @@
 -- A map of the program, from names to texts, as the files that it holds.
-use Rattle.std.proofs.Common.{◌≡◌, ℕ, Bool, true, false, cond, List, [], ◌∷◌, map, refl, sym, ap, ◌∙◌}
+use Rattle.std.proofs.Common.{◌≡◌, ℕ, ◌+◌, ◌-◌, nat_eq, Bool, true, false, cond, List, [], ◌∷◌, ◌++◌, length, take, drop, replicate, map, refl, sym, ap, ◌∙◌}
 use Rattle.std.proofs.lemmas.Bool.{false≢true}
 use Rattle.std.specs.Prelude.{Option, Some, None, option_map, option_copied, Vec, is_some, IsSome, unwrap_or, bytes_eq}
 use denote.Ref.{Bor}
@@ -12,7 +12,8 @@ use Rattle.std.specs.BTreeMap.{BTreeMap, get_by, UpdatesBy, WritesThrough}
 use Rattle.std.specs.Map.{lookup, IsKeyTest, AreApart, KeepsOthers}
 use Rattle.std.proofs.lemmas.Map.Text.{is_eq-slice_cmp}
 use Rattle.std.proofs.lemmas.Slice.Eq.{bytes_eq-Decides}
-use Rattle.bas_edge.specs.Files.{Files, HasFile, entry_of, file_bytes, files_in, with_renamed}
+use Rattle.bas_edge.specs.Files.{Files, HasFile, entry_of, file_bytes, files_in, overwritten, with_bytes_at, with_bytes_behind, with_renamed}
+use Rattle.bas_edge.proofs.Texts.{overwritten-end}
 
 -- the order of names, and whether it ties two of them
 abbrev pub name_cmp : List ℕ → List ℕ → Ordering
@@ -66,6 +67,23 @@ some_of (Some x) h = refl
 -- to put what a file has already is to leave the files as they are
 pub insert_file_bytes : (files : Files) (p : List ℕ) → HasFile files p → insert files p (file_bytes files p) ≡ files
 insert_file_bytes files p has = insert_same files p (file_bytes files p) (some_of (get files p) has)
+
+-- bytes written into a file that is there
+pub with_bytes_at-there : (files : Files) (p : List ℕ) (at : ℕ) (bytes : List ℕ) → HasFile files p
+    → with_bytes_at p at bytes files ≡ insert files p (overwritten (file_bytes files p) at bytes)
+with_bytes_at-there files p at bytes has =
+    let old : List ℕ = file_bytes files p in
+    let new : List ℕ = take at old ++ replicate (at - length old) 0 ++ bytes ++ drop (at + length bytes) old in
+    elim (nat_eq (length bytes) 0) as (λ b. cond b files (insert files p (cond b old new)) ≡ insert files p (cond b old new)) [
+      | true ↦ sym (insert_file_bytes files p has)
+      | false ↦ refl
+    ]
+
+-- bytes written at the end of a file that is there
+pub with_bytes_at_end : (files : Files) (p : List ℕ) (bytes : List ℕ) → HasFile files p
+    → with_bytes_at p (length (file_bytes files p)) bytes files ≡ with_bytes_behind p bytes files
+with_bytes_at_end files p bytes has =
+    with_bytes_at-there files p (length (file_bytes files p)) bytes has ∙ ap (insert files p) (overwritten-end (file_bytes files p) bytes)
 
 module _ {A : Type 0} where
   -- how the program's map looks a name up

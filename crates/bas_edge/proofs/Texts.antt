@@ -46,3 +46,12 @@ overwritten-parts old bytes text front part back rest at size is f r p b e some 
     b ∙ ap (drop (length bytes)) r ∙ drop-drop (length bytes) at text ∙ ap (λ n. drop n text) e ∙ ap (drop size) filled ∙ drop-filled old size ∙ ap (λ n. drop n old) (sym e) in
     let nonempty : nat_eq (length bytes) 0 ≡ false = grind (arith, nat_tests) in
     rw nonempty (rw (before, p, behind) (simp append_assoc))
+
+-- bytes written at the end of a text
+pub overwritten-end : (old bytes : List ℕ) → overwritten old (length old) bytes ≡ old ++ bytes
+overwritten-end old [] = sym (append-nil old)
+overwritten-end old (b ∷ bytes) =
+    let none : length old - length old ≡ 0 = omega arith in
+    let behind : length old ≤ length old + suc (length bytes) = omega arith in
+    let nonempty : nat_eq (length (b ∷ bytes)) 0 ≡ false = grind (arith, nat_tests) in
+    rw (nonempty, none, take_all (length old) old (omega arith), drop_all _ old behind) (simp (append_assoc, append-nil))

@@ -1,5 +1,5 @@
 -- Files by name, and what writing does to the bytes of one.
-use Rattle.std.specs.Prelude.{ℕ, ◌+◌, ◌-◌, ◌≤◌, ◌==◌, if◌then◌else◌, List, [], ◌++◌, length, take, drop, replicate, reverse, Option, option_map, unwrap_or, IsSome, IsNone, IsSomeAnd, map, Vec, String, string_bytes}
+use Rattle.std.specs.Prelude.{ℕ, ◌+◌, ◌-◌, ◌<◌, ◌≤◌, ◌==◌, if◌then◌else◌, List, [], ◌++◌, length, take, drop, replicate, reverse, Option, option_map, unwrap_or, IsSome, IsNone, IsSomeAnd, map, Vec, String, string_bytes}
 use Rattle.std.specs.Ordering.{nat_cmp}
 use Rattle.std.specs.BTreeMap.{BTreeMap}
 use Rattle.std.specs.Coded.{Coded, coded_list, coded_ℕ}
@@ -34,6 +34,10 @@ HasFile files name = IsSome (file_of files name)
 abbrev pub HasNoFile : Files → List ℕ → Type 0
 HasNoFile files name = IsNone (file_of files name)
 
+-- Some file has the name, unless there are no bytes to write into it.
+abbrev pub TakesBytes : Files → List ℕ → List ℕ → Type 0
+TakesBytes files name bytes = 0 < length bytes → HasFile files name
+
 -- Some file has the name, and these `count` bytes from `at` on lie in it.
 abbrev pub HasRange : Files → List ℕ → ℕ → ℕ → Type 0
 HasRange files name at count = IsSomeAnd (file_of files name) (λ bytes. at + count ≤ length bytes)
@@ -51,9 +55,10 @@ resized old size = take size old ++ replicate (size - length old) 0
 abbrev pub with_file : List ℕ → List ℕ → Files → Files
 with_file name bytes files = insert files name bytes
 
--- The files with these bytes written into the file from `at` on.
+-- The files with these bytes written into the file from `at` on. No bytes change no file, and make none.
 abbrev pub with_bytes_at : List ℕ → ℕ → List ℕ → Files → Files
-with_bytes_at name at bytes files = insert files name (overwritten (file_bytes files name) at bytes)
+with_bytes_at name at bytes files =
+    if length bytes == 0 then files else insert files name (overwritten (file_bytes files name) at bytes)
 
 -- The files with these bytes behind those of the file, which is made where it isn't there.
 abbrev pub with_bytes_behind : List ℕ → List ℕ → Files → Files

@@ -1,4 +1,4 @@
-ghost use Rattle.std.specs.Prelude.{◌≡◌, [], Some, length, IfOk, OnErr};
+ghost use Rattle.std.specs.Prelude.{◌≡◌, [], Some, length, IfOk, OnErr, IsErrOf, OnOk};
 ghost use Rattle.bas_edge.specs.Faults.{HasCause};
 ghost use Rattle.bas_edge.specs.Failures.{CountsCall, failing_at};
 ghost use Rattle.bas_edge.specs.Streams.{Gives};
@@ -57,6 +57,8 @@ impl Sink for ByteSink {
         ensures given { IfOk result (λ count. Gives (Some self.old.held) piece.now count (Some self.new.held)) }
         ensures same { OnErr result (self.new.held ≡ self.old.held) }
         ensures cause { HasCause EdgeError.Failed self.old.calls.failed self.new.calls.failed result }
+        ensures unfaulted { OnOk result (self.new.calls.failed ≡ self.old.calls.failed) }
+        ensures want { IsErrOf result EdgeError.Memory → self.new.calls.failed ≡ self.old.calls.failed }
     {
         self.failures.count_call()?;
         self.sink.give(piece)

@@ -1,4 +1,4 @@
-ghost use Rattle.std.specs.Prelude.{◌≡◌, ◌++◌, Some, min, length, take, drop, IfOk, OnErr};
+ghost use Rattle.std.specs.Prelude.{◌≡◌, ◌++◌, Some, min, length, take, drop, IfOk, OnErr, OnOk};
 ghost use Rattle.bas_edge.specs.Errors.{failed};
 ghost use Rattle.bas_edge.specs.Faults.{HasCause};
 ghost use Rattle.bas_edge.specs.Failures.{CountsCall, failing_at};
@@ -57,6 +57,7 @@ impl Source for ByteSource {
         ensures filled { IfOk result (λ count. buffer.new ≡ take count self.old.held ++ drop count buffer.old) }
         ensures taken { IfOk result (λ count. Takes (Some self.old.held) buffer.old count (Some self.new.held) buffer.new) }
         ensures cause { HasCause failed self.old.calls.failed self.new.calls.failed result }
+        ensures unfaulted { OnOk result (self.new.calls.failed ≡ self.old.calls.failed) }
         ensures same { OnErr result (self.new.held ≡ self.old.held) }
     {
         self.failures.count_call()?;

@@ -64,6 +64,7 @@ impl Shelf for CalmShelf {
         Ok(self.store.put(name, bytes)?)
     }
 
+    #[tactic(auto, using(crate::proofs::FilesIn::with_bytes_at_end))]
     fn append(&mut self, name: &str, bytes: &[u8]) -> Result<(), EdgeError> {
         match self.store.length(name.as_bytes())? {
             Some(end) => self.store.write_at(name.as_bytes(), end, bytes),

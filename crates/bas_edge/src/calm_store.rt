@@ -1,4 +1,4 @@
-ghost use Rattle.std.specs.Prelude.{◌≡◌, Some, map, option_copied, IfOk, OnOk, OnErr};
+ghost use Rattle.std.specs.Prelude.{◌≡◌, ◌<◌, Some, length, map, option_copied, IfOk, OnOk, OnErr};
 ghost use Rattle.bas_edge.specs.Files.{HasFile, entry_of, file_bytes, file_of, files_of, overwritten, with_file, without_file};
 ghost use Rattle.std.specs.FinMap as finite;
 
@@ -112,6 +112,9 @@ impl Store for CalmStore {
     }
 
     fn write_at(&mut self, name: &[u8], at: u64, bytes: &[u8]) -> Result<(), EdgeError> {
+        if bytes.is_empty() {
+            return Ok(());
+        }
         match self.files.get_mut(name) {
             Some(text) => Ok(overwrite(text, at, bytes)?),
             None => unreachable!(),
@@ -155,12 +158,10 @@ impl Store for CalmStore {
 
 /// Writes the bytes into the text from `at` on, and fills a gap past its end with zeros. After an `Err` the text is as before.
 fn overwrite(text: &mut Vec<u8>, at: u64, bytes: &[u8]) -> Result<(), AllocError>
+    requires { 0 < length bytes.now }
     ensures ok { OnOk result (text.new.items ≡ overwritten text.old.items at bytes.now) }
     ensures err { OnErr result (text.new.items ≡ text.old.items) }
 {
-    if bytes.is_empty() {
-        return Ok(());
-    }
     let start = at as usize;
     let Some(end) = start.checked_add(bytes.len()) else {
         return Err(AllocError);

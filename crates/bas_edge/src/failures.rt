@@ -1,4 +1,4 @@
-ghost use Rattle.std.specs.Prelude.{◌≡◌, ◌↔◌, IsErr, IsTrue};
+ghost use Rattle.std.specs.Prelude.{◌≡◌, ◌↔◌, IsErr, IsTrue, OnOk};
 ghost use Rattle.bas_edge.specs.Errors.{failed};
 ghost use Rattle.bas_edge.specs.Failures.{after_call, fails_next};
 ghost use Rattle.bas_edge.specs.Faults.{HasCause};
@@ -43,6 +43,7 @@ impl Failures {
         ensures fails { IsErr result ↔ IsTrue (fails_next self.old) }
         ensures counted { self.new ≡ after_call self.old }
         ensures cause { HasCause failed self.old.failed self.new.failed result }
+        ensures unfaulted { OnOk result (self.new.failed ≡ self.old.failed) }
     {
         let Some(number) = self.made.checked_add(1) else {
             return Ok(());

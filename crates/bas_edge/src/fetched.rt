@@ -1,4 +1,4 @@
-ghost use Rattle.std.specs.Prelude.{◌≡◌, IfOk};
+ghost use Rattle.std.specs.Prelude.{◌≡◌, IfOk, IsErrOf, OnOk};
 ghost use Rattle.std.specs.Option.{ForSome};
 ghost use Rattle.bas_edge.specs.Faults.{HasCause};
 ghost use Rattle.bas_edge.specs.Fetched.{IsWithinLimit, fetched_of};
@@ -31,6 +31,8 @@ pub fn fetch<F: Shelf>(
     ensures limited { IfOk result (IsWithinLimit limit) }
     ensures same { F.files shelf.new ≡ F.files shelf.old }
     ensures cause { HasCause EdgeError.Failed (F.fault_count shelf.old) (F.fault_count shelf.new) result }
+    ensures unfaulted { OnOk result (F.fault_count shelf.new ≡ F.fault_count shelf.old) }
+    ensures want { IsErrOf result EdgeError.Memory → F.fault_count shelf.new ≡ F.fault_count shelf.old }
 {
     let length = match shelf.length(name)? {
         Some(length) => length,

@@ -1,4 +1,4 @@
-ghost use Rattle.std.specs.Prelude.{◌≡◌, Some, length, map, take, drop, option_copied, IfOk, OnOk, OnErr};
+ghost use Rattle.std.specs.Prelude.{◌≡◌, Some, length, map, take, drop, option_copied, IfOk, OnOk, OnErr, IsErrOf};
 ghost use Rattle.bas_edge.specs.Failures.{CountsCall, failing_at};
 ghost use Rattle.bas_edge.specs.Faults.{HasCause};
 ghost use Rattle.bas_edge.specs.Files.{HasRange, file_bytes, file_length, file_of, files_of, text_entry_of, with_bytes_behind, with_file};
@@ -63,6 +63,8 @@ impl Shelf for MapShelf {
         ensures found { IfOk result (λ length. length ≡ file_length self.old.held name.now) }
         ensures same { self.new.held ≡ self.old.held }
         ensures cause { HasCause EdgeError.Failed self.old.calls.failed self.new.calls.failed result }
+        ensures unfaulted { OnOk result (self.new.calls.failed ≡ self.old.calls.failed) }
+        ensures want { IsErrOf result EdgeError.Memory → self.new.calls.failed ≡ self.old.calls.failed }
     {
         self.failures.count_call()?;
         self.shelf.length(name)
@@ -74,6 +76,8 @@ impl Shelf for MapShelf {
         ensures read { OnOk result (buffer.new ≡ take (length buffer.old) (drop at (file_bytes self.old.held name.now))) }
         ensures same { self.new.held ≡ self.old.held }
         ensures cause { HasCause EdgeError.Failed self.old.calls.failed self.new.calls.failed result }
+        ensures unfaulted { OnOk result (self.new.calls.failed ≡ self.old.calls.failed) }
+        ensures want { IsErrOf result EdgeError.Memory → self.new.calls.failed ≡ self.old.calls.failed }
     {
         self.failures.count_call()?;
         self.shelf.read_at(name, at, buffer)
@@ -84,6 +88,8 @@ impl Shelf for MapShelf {
         ensures replaced { OnOk result (self.new.held ≡ with_file name.now bytes.now self.old.held) }
         ensures same { OnErr result (self.new.held ≡ self.old.held) }
         ensures cause { HasCause EdgeError.Failed self.old.calls.failed self.new.calls.failed result }
+        ensures unfaulted { OnOk result (self.new.calls.failed ≡ self.old.calls.failed) }
+        ensures want { IsErrOf result EdgeError.Memory → self.new.calls.failed ≡ self.old.calls.failed }
     {
         self.failures.count_call()?;
         self.shelf.replace(name, bytes)
@@ -94,6 +100,8 @@ impl Shelf for MapShelf {
         ensures appended { OnOk result (self.new.held ≡ with_bytes_behind name.now bytes.now self.old.held) }
         ensures same { OnErr result (self.new.held ≡ self.old.held) }
         ensures cause { HasCause EdgeError.Failed self.old.calls.failed self.new.calls.failed result }
+        ensures unfaulted { OnOk result (self.new.calls.failed ≡ self.old.calls.failed) }
+        ensures want { IsErrOf result EdgeError.Memory → self.new.calls.failed ≡ self.old.calls.failed }
     {
         self.failures.count_call()?;
         self.shelf.append(name, bytes)

@@ -1,7 +1,7 @@
-ghost use Rattle.std.specs.Prelude.{◌≡◌, [], Some, length, map, take, drop, option_copied, IfOk, OnOk, OnErr};
+ghost use Rattle.std.specs.Prelude.{◌≡◌, [], Some, length, map, take, drop, option_copied, IfOk, OnOk, OnErr, IsErrOf};
 ghost use Rattle.bas_edge.specs.Failures.{CountsCall, failing_at};
 ghost use Rattle.bas_edge.specs.Faults.{HasCause};
-ghost use Rattle.bas_edge.specs.Files.{HasFile, HasNoFile, HasRange, entry_of, file_bytes, file_length, file_of, files_of, with_bytes_at, with_file, with_length, with_renamed, without_file};
+ghost use Rattle.bas_edge.specs.Files.{HasFile, HasNoFile, HasRange, TakesBytes, entry_of, file_bytes, file_length, file_of, files_of, with_bytes_at, with_file, with_length, with_renamed, without_file};
 
 use crate::calm_store::CalmStore;
 use crate::errors::{EdgeError, Memory};
@@ -63,6 +63,8 @@ impl Store for MapStore {
         ensures found { IfOk result (λ length. length ≡ file_length self.old.held name.now) }
         ensures same { self.new.held ≡ self.old.held }
         ensures cause { HasCause EdgeError.Failed self.old.calls.failed self.new.calls.failed result }
+        ensures unfaulted { OnOk result (self.new.calls.failed ≡ self.old.calls.failed) }
+        ensures want { IsErrOf result EdgeError.Memory → self.new.calls.failed ≡ self.old.calls.failed }
     {
         self.failures.count_call()?;
         self.store.length(name)
@@ -74,17 +76,21 @@ impl Store for MapStore {
         ensures read { OnOk result (buffer.new ≡ take (length buffer.old) (drop at (file_bytes self.old.held name.now))) }
         ensures same { self.new.held ≡ self.old.held }
         ensures cause { HasCause EdgeError.Failed self.old.calls.failed self.new.calls.failed result }
+        ensures unfaulted { OnOk result (self.new.calls.failed ≡ self.old.calls.failed) }
+        ensures want { IsErrOf result EdgeError.Memory → self.new.calls.failed ≡ self.old.calls.failed }
     {
         self.failures.count_call()?;
         self.store.read_at(name, at, buffer)
     }
 
     fn write_at(&mut self, name: &[u8], at: u64, bytes: &[u8]) -> Result<(), EdgeError>
-        requires { HasFile self.old.held name.now }
+        requires { TakesBytes self.old.held name.now bytes.now }
         ensures counted { CountsCall EdgeError.Failed self.old self.new result }
         ensures written { OnOk result (self.new.held ≡ with_bytes_at name.now at bytes.now self.old.held) }
         ensures same { OnErr result (self.new.held ≡ self.old.held) }
         ensures cause { HasCause EdgeError.Failed self.old.calls.failed self.new.calls.failed result }
+        ensures unfaulted { OnOk result (self.new.calls.failed ≡ self.old.calls.failed) }
+        ensures want { IsErrOf result EdgeError.Memory → self.new.calls.failed ≡ self.old.calls.failed }
     {
         self.failures.count_call()?;
         self.store.write_at(name, at, bytes)
@@ -96,6 +102,8 @@ impl Store for MapStore {
         ensures created { OnOk result (self.new.held ≡ with_file name.now [] self.old.held) }
         ensures same { OnErr result (self.new.held ≡ self.old.held) }
         ensures cause { HasCause EdgeError.Failed self.old.calls.failed self.new.calls.failed result }
+        ensures unfaulted { OnOk result (self.new.calls.failed ≡ self.old.calls.failed) }
+        ensures want { IsErrOf result EdgeError.Memory → self.new.calls.failed ≡ self.old.calls.failed }
     {
         self.failures.count_call()?;
         self.store.create(name)
@@ -107,6 +115,8 @@ impl Store for MapStore {
         ensures removed { OnOk result (self.new.held ≡ without_file name.now self.old.held) }
         ensures same { OnErr result (self.new.held ≡ self.old.held) }
         ensures cause { HasCause EdgeError.Failed self.old.calls.failed self.new.calls.failed result }
+        ensures unfaulted { OnOk result (self.new.calls.failed ≡ self.old.calls.failed) }
+        ensures want { IsErrOf result EdgeError.Memory → self.new.calls.failed ≡ self.old.calls.failed }
     {
         self.failures.count_call()?;
         self.store.remove(name)
@@ -118,6 +128,8 @@ impl Store for MapStore {
         ensures renamed { OnOk result (self.new.held ≡ with_renamed from.now to.now self.old.held) }
         ensures same { OnErr result (self.new.held ≡ self.old.held) }
         ensures cause { HasCause EdgeError.Failed self.old.calls.failed self.new.calls.failed result }
+        ensures unfaulted { OnOk result (self.new.calls.failed ≡ self.old.calls.failed) }
+        ensures want { IsErrOf result EdgeError.Memory → self.new.calls.failed ≡ self.old.calls.failed }
     {
         self.failures.count_call()?;
         self.store.rename(from, to)
@@ -129,6 +141,8 @@ impl Store for MapStore {
         ensures resized { OnOk result (self.new.held ≡ with_length name.now length self.old.held) }
         ensures same { OnErr result (self.new.held ≡ self.old.held) }
         ensures cause { HasCause EdgeError.Failed self.old.calls.failed self.new.calls.failed result }
+        ensures unfaulted { OnOk result (self.new.calls.failed ≡ self.old.calls.failed) }
+        ensures want { IsErrOf result EdgeError.Memory → self.new.calls.failed ≡ self.old.calls.failed }
     {
         self.failures.count_call()?;
         self.store.set_length(name, length)

@@ -1,4 +1,4 @@
-ghost use Rattle.std.specs.Prelude.{◌≡◌, ℕ, List, Option, IfOk, OnErr};
+ghost use Rattle.std.specs.Prelude.{◌≡◌, ℕ, List, Option, IfOk, OnErr, IsErrOf, OnOk};
 ghost use Rattle.bas_edge.specs.Faults.{HasCause};
 ghost use Rattle.bas_edge.specs.Streams.{Gives};
 
@@ -16,7 +16,9 @@ pub trait Sink {
     fn give(&mut self, piece: &[u8]) -> Result<usize, EdgeError>
         ensures given { IfOk result (λ count. Gives (given self.old) piece.now count (given self.new)) }
         ensures same { OnErr result (given self.new ≡ given self.old) }
-        ensures cause { HasCause EdgeError.Failed (fault_count self.old) (fault_count self.new) result };
+        ensures cause { HasCause EdgeError.Failed (fault_count self.old) (fault_count self.new) result }
+        ensures unfaulted { OnOk result (fault_count self.new ≡ fault_count self.old) }
+        ensures want { IsErrOf result EdgeError.Memory → fault_count self.new ≡ fault_count self.old };
 
     /// How many faults there were, held at the greatest `u64`.
     fn faults(&self) -> u64

@@ -1,4 +1,4 @@
-ghost use Rattle.std.specs.Prelude.{◌≡◌, ℕ, List, Option, IfOk, OnErr};
+ghost use Rattle.std.specs.Prelude.{◌≡◌, ℕ, List, Option, IfOk, OnErr, OnOk};
 ghost use Rattle.bas_edge.specs.Errors.{failed};
 ghost use Rattle.bas_edge.specs.Faults.{HasCause};
 ghost use Rattle.bas_edge.specs.Streams.{Takes};
@@ -18,7 +18,8 @@ pub trait Source {
     fn take(&mut self, buffer: &mut [u8]) -> Result<usize, Failed>
         ensures taken { IfOk result (λ count. Takes (left self.old) buffer.old count (left self.new) buffer.new) }
         ensures same { OnErr result (left self.new ≡ left self.old) }
-        ensures cause { HasCause failed (fault_count self.old) (fault_count self.new) result };
+        ensures cause { HasCause failed (fault_count self.old) (fault_count self.new) result }
+        ensures unfaulted { OnOk result (fault_count self.new ≡ fault_count self.old) };
 
     /// How many faults there were, held at the greatest `u64`.
     fn faults(&self) -> u64

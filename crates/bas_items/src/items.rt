@@ -1,5 +1,7 @@
 ghost use Rattle.std.specs.Prelude.{◌≡◌, [], ◌∷◌, ◌++◌, ◌<◌, ◌↔◌, length, slice_get, slice_set, IfOk, IsTrue, OnOk, OnErr, OnSome};
 ghost use Rattle.std.specs.Option.{option_copied};
+ghost use Rattle.std.specs.List.{AllZip};
+ghost use Rattle.std.specs.Cmp.Lexicographic.{pointwise, lists_per, lists_equiv};
 
 use std::alloc::{AllocError, Global};
 use std::marker::Model;
@@ -113,4 +115,29 @@ impl<T: Copy> Items<T> {
     {
         self.items.extend_from_slice(more)
     }
+}
+
+impl<T: Clone> Clone for Items<T> {
+    ghost is_clone = { λ list copy. AllZip T.is_clone list copy };
+
+    /// A list of clones of the elements.
+    fn clone(&self) -> Result<Items<T>, AllocError> {
+        let items = self.items.clone()?;
+        Ok(Items { items })
+    }
+}
+
+impl<T: PartialEq> PartialEq for Items<T> {
+    ghost eq = { λ list other. pointwise T.eq list other };
+
+    ghost laws = { lists_per T.laws };
+
+    /// Whether there are as many elements, each equal to the one in its place.
+    fn eq(&self, other: &Items<T>) -> bool {
+        self.items == other.items
+    }
+}
+
+impl<T: Eq> Eq for Items<T> {
+    ghost laws = { lists_equiv T.Eq.laws };
 }

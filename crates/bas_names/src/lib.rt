@@ -1,10 +1,10 @@
 //! Names of streams, and rules that put another beginning in the place of a name's own.
 #![tactic(auto)]
 
-ghost use Rattle.std.specs.Prelude.{◌≡◌, IfOk};
+ghost use Rattle.std.specs.Prelude.{◌≡◌};
 
 use bas_items::Items;
-use std::alloc::{AllocError, Global};
+use std::alloc::AllocError;
 use thiserror::Error;
 
 mod escaping;
@@ -16,7 +16,7 @@ pub use laws::{lists_in_turn, one_passage};
 pub use substituting::substitute;
 
 /// What a stream is opened by: a file's name, or one of the console's three ends.
-#[derive(Debug, Drop)]
+#[derive(Clone, Debug, PartialEq, Eq, Drop)]
 pub enum StreamName {
     File(Items<u8>),
     ConIn,
@@ -24,43 +24,12 @@ pub enum StreamName {
     ConErr,
 }
 
-impl StreamName {
-    /// A copy of the name.
-    pub fn copy(&self, alloc: Global) -> Result<StreamName, AllocError>
-        ensures { IfOk result (λ copy. copy ≡ self.now) }
-    {
-        match self {
-            StreamName::File(name) => {
-                let name = Items::from_slice(alloc, name.as_slice())?;
-                Ok(StreamName::File(name))
-            }
-            StreamName::ConIn => Ok(StreamName::ConIn),
-            StreamName::ConOut => Ok(StreamName::ConOut),
-            StreamName::ConErr => Ok(StreamName::ConErr),
-        }
-    }
-}
-
 /// A rule on names that begin with `from`: `to` takes the place of `from`, and without a `to` the name is
 /// denied.
-#[derive(Debug, Drop)]
+#[derive(Clone, Debug, PartialEq, Eq, Drop)]
 pub struct Rule {
     pub from: Items<u8>,
     pub to: Option<Items<u8>>,
-}
-
-impl Rule {
-    /// A copy of the rule.
-    pub fn copy(&self, alloc: Global) -> Result<Rule, AllocError>
-        ensures { IfOk result (λ copy. copy ≡ self.now) }
-    {
-        let from = Items::from_slice(alloc, self.from.as_slice())?;
-        let to = match &self.to {
-            Some(to) => Some(Items::from_slice(alloc, to.as_slice())?),
-            None => None,
-        };
-        Ok(Rule { from, to })
-    }
 }
 
 /// Why there is no name.

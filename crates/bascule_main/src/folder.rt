@@ -68,6 +68,9 @@ impl<'a, R: Files> Folder<'a, R> {
     }
 
     fn write_range(&self, name: &[u8], at: u64, bytes: &[u8]) -> io::Result<()> {
+        if bytes.is_empty() {
+            return Ok(());
+        }
         let mut file = self.opened_to_write(name)?;
         file.seek(SeekFrom::Start(at))?;
         file.write_all(bytes)

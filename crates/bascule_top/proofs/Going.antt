@@ -3,7 +3,7 @@ use Rattle.std.proofs.Common.{◌≡◌, ◌≢◌, ℕ, suc, ◌+◌, ◌%◌, 
 use Rattle.std.specs.Prelude.{true, false, is_some}
 use Rattle.std.specs.declared.option.Option.{Option}
 use Rattle.std.specs.declared.option.Option.TheVariants.{None, Some}
-use Rattle.abi_calls.specs.Objects.{Objects, risen}
+use Rattle.abi_calls.specs.Objects.{Objects, next_position}
 use Rattle.abi_calls.specs.World.{World, Contents, Told}
 use Rattle.mono_model.specs.Machine as mono
 use Rattle.mono_model.specs.Machine.{Mono}
@@ -13,7 +13,7 @@ use Rattle.libos_state.specs.declared.state.LibOs.{LibOs}
 use Rattle.libos_state.specs.Records.{base}
 use Rattle.libos_state.specs.Fits.{FitsUp, FitsIdle, exit_code}
 use Rattle.libos_state.proofs.Idle.{exit_code_idle, exit_code_over, ready_idle}
-use Rattle.turn_engine.specs.WhereTold.{world}
+use Rattle.abi_calls.specs.World.{world}
 use Rattle.turn_engine.specs.Serves.{IsUp, MakesTurn}
 use Rattle.turn_engine.proofs.Telling.{told_same, told_then}
 use Rattle.bascule_top.specs.Runs.{GoesOn, EndsRun, end_by}
@@ -45,12 +45,12 @@ pub goes_turn : (made left : ℕ) (os os' os'' : LibOs) (o o' o'' : Objects) (t 
     → GoesOn made (suc left) os o t os' o' t' → exit_code os' ≡ None → MakesTurn os' o' t' os'' o'' t'' → GoesOn (made + 1) left os o t os'' o'' t''
 goes_turn made left os os' os'' o o' o'' t t' t'' before alive turn = record {
   up = turn.up;
-  turns = turn.turns ∙ ap risen before.turns ∙ risen_sum o.positions.turns made;
+  turns = turn.turns ∙ ap next_position before.turns ∙ risen_sum o.positions.turns made;
   means = told_then t t' t'' _ _ (λ x z. run_of (made + 1 + left) (base os (world o x)) ≡ run_of left (base os'' (world o'' z)))
       (λ x y z p q. ap (λ k. run_of k (base os (world o x))) (omega arith) ∙ p ∙ rest_runs os' os'' o' o'' y z left before.up alive q) before.means turn.means;
 }
   where
-    risen_sum : (n k : ℕ) → risen ((n + k) % 2 ^ 64) ≡ (n + (k + 1)) % 2 ^ 64
+    risen_sum : (n k : ℕ) → next_position ((n + k) % 2 ^ 64) ≡ (n + (k + 1)) % 2 ^ 64
     risen_sum n k = omega arith
 
 ends_by : (os : LibOs) (o : Objects) (y : Contents) (left : ℕ) (code : Option ℕ) → mono.exit_code (base os (world o y)) 1 ≡ code → (code ≡ None → left ≡ 0)

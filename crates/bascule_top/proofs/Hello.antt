@@ -15,7 +15,7 @@ use Rattle.guest_space.specs.Access.{first_fault, fault_of_cell}
 use Rattle.guest_space.specs.Running.{Ran, run_space, ran_from}
 use Rattle.guest_space.proofs.Cells.{with_memory_same}
 use Rattle.bas_edge.specs.Files.{file_of}
-use Rattle.abi_calls.specs.declared.call.StreamName.TheVariants.{ConOut, ConErr}
+use Rattle.bas_names.specs.declared.StreamName.TheVariants.{ConOut, ConErr}
 use Rattle.abi_calls.specs.World.{Contents}
 use Rattle.abi_calls.proofs.NumberMaps.{get_same, get_other}
 use Rattle.mono_model.specs.Machine.{Mono, Process, Thread, Description, process_at, thread_at, with_process, with_thread, exit_code, code_in, exited}

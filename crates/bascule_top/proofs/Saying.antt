@@ -23,7 +23,7 @@ use Rattle.libos_state.specs.Records.{base}
 use Rattle.libos_state.specs.Meaning.{meaning, meant, meant_idle}
 use Rattle.libos_state.specs.Fits.{Fits, exit_code}
 use Rattle.libos_state.proofs.Beginning.{CanBoot, boot_fits}
-use Rattle.turn_engine.specs.WhereTold.{WhereTold, world, whole}
+use Rattle.abi_calls.specs.World.{WhereTold, world, whole}
 use Rattle.turn_engine.specs.Serves.{Serves, IsUp}
 use Rattle.turn_engine.specs.Halts.{Halts, HaltsRun, Fronts, StartsQuietly}
 use Rattle.turn_engine.proofs.Steps.{meaning_up}

@@ -13,7 +13,7 @@ use Rattle.mono_model.specs.Turns as mono
 use Rattle.mono_model.specs.Turns.{End, run_of}
 use Rattle.libos_state.specs.declared.state.LibOs.{LibOs}
 use Rattle.libos_state.specs.Records.{base}
-use Rattle.turn_engine.specs.WhereTold.{WhereTold, world}
+use Rattle.abi_calls.specs.World.{WhereTold, world}
 use Rattle.turn_engine.specs.Serves.{IsUp}
 use Rattle.turn_engine.specs.Halts.{IsUnwritten, FrontsRun}
 use Rattle.bascule_top.specs.declared.outcome.Outcome.{Outcome}

@@ -8,7 +8,7 @@ use Rattle.mono_model.specs.Turns.{End, Exited, Bound, run_of}
 use Rattle.libos_state.specs.declared.state.LibOs.{LibOs}
 use Rattle.libos_state.specs.Records.{base}
 use Rattle.libos_state.specs.Fits.{exit_code}
-use Rattle.turn_engine.specs.WhereTold.{WhereTold, world}
+use Rattle.abi_calls.specs.World.{WhereTold, world}
 use Rattle.turn_engine.specs.Serves.{IsUp}
 
 -- How a run of so many turns ends, by the exit code.

@@ -3,7 +3,9 @@ use Rattle.std.proofs.Common.{◌≡◌, ℕ, ◌+◌, ◌-◌, ◌*◌, ◌/◌
 use Rattle.std.proofs.lemmas.Bool.{cases_lt}
 use Rattle.std.proofs.lemmas.Grind.{same_number_lists}
 use Rattle.std.proofs.lemmas.List.{length-drop, length-append, length-take-le, get_or-take, get_or-drop, get_or_append_left, get_or-append_right, take-append-drop, take-take, drop-take, nil_from_length}
+use Rattle.std.proofs.lemmas.List.Elements.{All-same, All-append, All-take, All-drop}
 use Rattle.std.proofs.lemmas.Slice.{take-put_mid}
+use Rattle.std.specs.List.{All}
 use Rattle.std.specs.FinMap.{get, insert}
 use Rattle.rv_core.specs.Memory.{Memory, cell_with}
 use borrow.Rule.Slice.PartMut.{put_mid}
@@ -18,7 +20,7 @@ use Rattle.guest_memory.specs.Pages.{frame_of, space_of, AreInOrder, IsFound}
 use Rattle.guest_memory.specs.PageBytes.{with_part}
 use Rattle.guest_memory.proofs.Order.{IsSpace-space_of}
 use Rattle.guest_memory.proofs.InPage.{with_frame_bytes, cell_of_page, memory_of-put}
-use Rattle.guest_memory.proofs.Writes.{with_page_bytes, found_whole, AreInOrder-with_bytes, space_of-with_bytes}
+use Rattle.guest_memory.proofs.Writes.{with_page_bytes, found_whole, found_small, AreInOrder-with_bytes, space_of-with_bytes}
 
 pub bytes_from-zero : (m : Memory) (at : ℕ) → bytes_from m at 0 ≡ []
 unfolding bytes_from
@@ -130,10 +132,15 @@ with_bytes-in_page s page k part frame held whole fits =
       ]
     ])
 
-pub AreInOrder-part : (ps : List Page) (q i k : ℕ) (part : List ℕ) (d : Page) (bytes : List ℕ) → AreInOrder ps → IsFound ps q i → k + length part ≤ 4096 → bytes ≡ with_part (get_or ps i d).bytes k part → AreInOrder (set ps i (with_page_bytes (get_or ps i d) bytes))
-AreInOrder-part ps q i k part d bytes order found fits is =
+pub AreInOrder-part : (ps : List Page) (q i k : ℕ) (part : List ℕ) (d : Page) (bytes : List ℕ) → AreInOrder ps → IsFound ps q i → k + length part ≤ 4096 → All (λ byte. byte < 256) part → bytes ≡ with_part (get_or ps i d).bytes k part → AreInOrder (set ps i (with_page_bytes (get_or ps i d) bytes))
+AreInOrder-part ps q i k part d bytes order found fits small is =
     let whole = found_whole ps q i d order found in
+    let old = (get_or ps i d).bytes in
+    let rest = found_small ps q i d order found in
     AreInOrder-with_bytes ps q i d bytes order found (ap length is ∙ length-with_part (get_or ps i d).bytes part k (omega arith) ∙ whole)
+    (All-same (λ b. b < 256) bytes _ is
+    (All-append (λ b. b < 256) (take k old) (part ++ drop (k + length part) old) (All-take (λ b. b < 256) k old rest)
+    (All-append (λ b. b < 256) part (drop (k + length part) old) small (All-drop (λ b. b < 256) (k + length part) old rest))))
 
 pub memory_of-part : (ps : List Page) (at i : ℕ) (part : List ℕ) (d : Page) (bytes : List ℕ) → AreInOrder ps → IsFound ps (at / 4096) i → at % 4096 + length part ≤ 4096 → bytes ≡ with_part (get_or ps i d).bytes (at % 4096) part → memory_of (space_of (set ps i (with_page_bytes (get_or ps i d) bytes))) ≡ with_bytes (memory_of (space_of ps)) at part
 memory_of-part ps at i part d bytes order found fits is =

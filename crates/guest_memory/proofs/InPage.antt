@@ -2,7 +2,9 @@
 use Rattle.std.proofs.Common.{◌≡◌, ℕ, zero, suc, ◌+◌, ◌-◌, ◌*◌, ◌/◌, ◌%◌, ◌^◌, ◌<◌, ◌≤◌, cond, List, length, get_or, set, refl, sym, ap, ◌∙◌, arith, Some, None, inl, inr}
 use Rattle.std.proofs.lemmas.Bool.{eq-eqb, cases_eq}
 use Rattle.std.proofs.lemmas.List.{get_or-set_same, get_or-set_other, length-set}
+use Rattle.std.proofs.lemmas.List.Elements.{All-set}
 use Rattle.std.specs.Int.Bits.{bit_and}
+use Rattle.std.specs.List.{All}
 use Rattle.std.specs.FinMap.{get, insert}
 use Rattle.rv_core.specs.Memory.{Memory, byte_at, byte_if, above, number_at, cell_with, with_byte_at, written}
 use Rattle.guest_space.specs.Space.{Space, Frame, cell_in, memory_of}
@@ -69,6 +71,11 @@ with_byte_at-in_page s page k byte frame held whole within =
 pub length-with_number : (bytes : List ℕ) (at n value : ℕ) → length (with_number bytes at n value) ≡ length bytes
 length-with_number bytes at zero value = refl
 length-with_number bytes at (suc n) value = length-with_number (set bytes at (value % 256)) (at + 1) n (value / 256) ∙ length-set bytes at (value % 256)
+
+pub All-with_number : (bytes : List ℕ) (at n value : ℕ) → All (λ byte. byte < 256) bytes → All (λ byte. byte < 256) (with_number bytes at n value)
+All-with_number bytes at zero value small = small
+All-with_number bytes at (suc n) value small =
+    All-with_number (set bytes at (value % 256)) (at + 1) n (value / 256) (All-set (λ b. b < 256) bytes at (value % 256) (omega arith) small)
 
 -- several bytes of a page
 pub written-in_page : (s : Space) (page k n value : ℕ) (frame : Frame) → get s page ≡ Some frame → length frame.bytes ≡ 4096 → k + n ≤ 4096 → page < 2 ^ 52 → written (memory_of s) (page * 4096 + k) n value ≡ memory_of (insert s page (with_frame_bytes frame (with_number frame.bytes k n value)))

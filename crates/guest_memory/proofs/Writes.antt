@@ -1,7 +1,9 @@
 -- Other bytes in a page of a list, and what the memory then is.
 use Rattle.std.proofs.Common.{◌≡◌, ℕ, suc, ◌+◌, ◌-◌, ◌/◌, ◌%◌, ◌^◌, ◌<◌, ◌≤◌, true, cond, List, [], length, get_or, set, sym, ap, ◌∙◌, arith}
 use Rattle.std.proofs.lemmas.List.{length-set}
+use Rattle.std.proofs.lemmas.List.Elements.{All-same, All-set}
 use Rattle.std.specs.Int.Bits.{bit_and}
+use Rattle.std.specs.List.{All}
 use Rattle.std.specs.Option.{is_some}
 use Rattle.std.specs.FinMap.{insert}
 use Rattle.rv_core.specs.Memory.{Memory, storable, stored, with_byte_at, written}
@@ -12,7 +14,7 @@ use Rattle.guest_memory.specs.declared.page.Page.{Page}
 use Rattle.guest_memory.specs.Pages.{frame_of, space_of, AreInOrder, IsFound}
 use Rattle.guest_memory.specs.PageBytes.{with_number}
 use Rattle.guest_memory.proofs.Order.{IsFrame-at, AllAbove-set, space_of-set}
-use Rattle.guest_memory.proofs.InPage.{with_frame_bytes, with_byte_at-in_page, written-in_page, length-with_number, number_at-in_page}
+use Rattle.guest_memory.proofs.InPage.{with_frame_bytes, with_byte_at-in_page, written-in_page, length-with_number, All-with_number, number_at-in_page}
 
 abbrev pub with_page_bytes : Page → List ℕ → Page
 with_page_bytes p bytes = record { number = p.number; rights = p.rights; bytes = bytes }
@@ -20,11 +22,14 @@ with_page_bytes p bytes = record { number = p.number; rights = p.rights; bytes =
 pub found_whole : (ps : List Page) (q i : ℕ) (d : Page) → AreInOrder ps → IsFound ps q i → length (get_or ps i d).bytes ≡ 4096
 found_whole ps q i d order found = (IsFrame-at 0 ps i d order found.within).whole
 
-pub AreInOrder-with_bytes : (ps : List Page) (q i : ℕ) (d : Page) (bytes : List ℕ) → AreInOrder ps → IsFound ps q i → length bytes ≡ 4096 → AreInOrder (set ps i (with_page_bytes (get_or ps i d) bytes))
-AreInOrder-with_bytes ps q i d bytes order found whole =
+pub found_small : (ps : List Page) (q i : ℕ) (d : Page) → AreInOrder ps → IsFound ps q i → All (λ byte. byte < 256) (get_or ps i d).bytes
+found_small ps q i d order found = (IsFrame-at 0 ps i d order found.within).small
+
+pub AreInOrder-with_bytes : (ps : List Page) (q i : ℕ) (d : Page) (bytes : List ℕ) → AreInOrder ps → IsFound ps q i → length bytes ≡ 4096 → All (λ byte. byte < 256) bytes → AreInOrder (set ps i (with_page_bytes (get_or ps i d) bytes))
+AreInOrder-with_bytes ps q i d bytes order found whole small =
     let old = IsFrame-at 0 ps i d order found.within in
     AllAbove-set 0 ps i (with_page_bytes (get_or ps i d) bytes) order found.within (λ e. found.is e ∙ sym (found.is d))
-    (record { above = old.above; below = old.below; whole = whole; rights = old.rights })
+    (record { above = old.above; below = old.below; whole = whole; small = small; rights = old.rights })
 
 pub space_of-with_bytes : (ps : List Page) (q i : ℕ) (d : Page) (bytes : List ℕ) → AreInOrder ps → IsFound ps q i → space_of (set ps i (with_page_bytes (get_or ps i d) bytes)) ≡ insert (space_of ps) q (with_frame_bytes (frame_of (get_or ps i d)) bytes)
 space_of-with_bytes ps q i d bytes order found =
@@ -32,9 +37,11 @@ space_of-with_bytes ps q i d bytes order found =
     ∙ ap (λ k. insert (space_of ps) k (with_frame_bytes (frame_of (get_or ps i d)) bytes)) (found.is d)
 
 -- one byte
-pub AreInOrder-byte : (ps : List Page) (q i k byte : ℕ) (d : Page) → AreInOrder ps → IsFound ps q i → AreInOrder (set ps i (with_page_bytes (get_or ps i d) (set (get_or ps i d).bytes k byte)))
-AreInOrder-byte ps q i k byte d order found =
-    AreInOrder-with_bytes ps q i d (set (get_or ps i d).bytes k byte) order found (length-set (get_or ps i d).bytes k byte ∙ found_whole ps q i d order found)
+pub AreInOrder-byte : (ps : List Page) (q i k byte : ℕ) (d : Page) → AreInOrder ps → IsFound ps q i → byte < 256 → AreInOrder (set ps i (with_page_bytes (get_or ps i d) (set (get_or ps i d).bytes k byte)))
+AreInOrder-byte ps q i k byte d order found small =
+    AreInOrder-with_bytes ps q i d (set (get_or ps i d).bytes k byte) order found
+    (length-set (get_or ps i d).bytes k byte ∙ found_whole ps q i d order found)
+    (All-set (λ b. b < 256) (get_or ps i d).bytes k byte small (found_small ps q i d order found))
 
 pub memory_of-byte : (ps : List Page) (at i byte : ℕ) (d : Page) → AreInOrder ps → IsFound ps (at / 4096) i → memory_of (space_of (set ps i (with_page_bytes (get_or ps i d) (set (get_or ps i d).bytes (at % 4096) byte)))) ≡ with_byte_at (memory_of (space_of ps)) at byte
 memory_of-byte ps at i byte d order found =
@@ -46,7 +53,9 @@ memory_of-byte ps at i byte d order found =
 -- a number
 pub AreInOrder-number : (ps : List Page) (q i k n value : ℕ) (d : Page) (bytes : List ℕ) → AreInOrder ps → IsFound ps q i → bytes ≡ with_number (get_or ps i d).bytes k n value → AreInOrder (set ps i (with_page_bytes (get_or ps i d) bytes))
 AreInOrder-number ps q i k n value d bytes order found is =
-    AreInOrder-with_bytes ps q i d bytes order found (ap length is ∙ length-with_number (get_or ps i d).bytes k n value ∙ found_whole ps q i d order found)
+    AreInOrder-with_bytes ps q i d bytes order found
+    (ap length is ∙ length-with_number (get_or ps i d).bytes k n value ∙ found_whole ps q i d order found)
+    (All-same (λ b. b < 256) bytes _ is (All-with_number (get_or ps i d).bytes k n value (found_small ps q i d order found)))
 
 pub memory_of-number : (ps : List Page) (at i n value : ℕ) (d : Page) (bytes : List ℕ) → AreInOrder ps → IsFound ps (at / 4096) i → at < 2 ^ 64 → at % 4096 + n ≤ 4096 → bytes ≡ with_number (get_or ps i d).bytes (at % 4096) n value → memory_of (space_of (set ps i (with_page_bytes (get_or ps i d) bytes))) ≡ written (memory_of (space_of ps)) at n value
 memory_of-number ps at i n value d bytes order found small fits is =
@@ -77,7 +86,7 @@ pub AreInOrder-with_rights : (ps : List Page) (q i rights : ℕ) (d : Page) → 
 AreInOrder-with_rights ps q i rights d order found below =
     let old = IsFrame-at 0 ps i d order found.within in
     AllAbove-set 0 ps i (with_page_rights (get_or ps i d) rights) order found.within (λ e. found.is e ∙ sym (found.is d))
-    (record { above = old.above; below = old.below; whole = old.whole; rights = below })
+    (record { above = old.above; below = old.below; whole = old.whole; small = old.small; rights = below })
 
 pub space_of-with_rights : (ps : List Page) (q i rights : ℕ) (d : Page) → AreInOrder ps → IsFound ps q i → space_of (set ps i (with_page_rights (get_or ps i d) rights)) ≡ insert (space_of ps) q (with_frame_rights rights (frame_of (get_or ps i d)))
 space_of-with_rights ps q i rights d order found =

@@ -1,6 +1,6 @@
 -- The memory of a space, byte by byte: what keeps which bytes are there and their rights, and that a space is
 -- determined by its memory.
-use Rattle.std.proofs.Common.{◌≡◌, ℕ, zero, suc, ◌+◌, ◌*◌, ◌/◌, ◌%◌, ◌<◌, List, [], ◌∷◌, length, get_or, refl, sym, ap, ◌∙◌, arith, Option, Some, None}
+use Rattle.std.proofs.Common.{◌≡◌, ℕ, zero, suc, ◌+◌, ◌*◌, ◌/◌, ◌%◌, ◌<◌, List, [], ◌∷◌, length, get_or, refl, sym, ap, ◌∙◌, subst, arith, Option, Some, None}
 use Rattle.std.proofs.lemmas.Grind.{same_number_lists}
 use Rattle.std.proofs.lemmas.Option.{none-some, same_Some}
 use Rattle.std.proofs.lemmas.Nat.{div-mul-add, mod-mul-add}
@@ -9,10 +9,10 @@ use Rattle.std.specs.Cmp.{nat_cmp_total}
 use Rattle.std.specs.FinMap.{get, same_map, nat_cmp-IsAntisymmetric}
 use Rattle.rv_core.specs.Memory.{Memory, Cell, with_byte_at}
 use Rattle.rv_core.proofs.Rights.{rights_of, SameRights, SameRights-refl, SameRights-trans, SameRights-with_byte_at}
-use Rattle.guest_space.specs.Space.{Space, Frame, IsFrame, IsSpace, cell_in, memory_of, with_memory, bytes_from, byte_or_zero}
+use Rattle.guest_space.specs.Space.{Space, Frame, IsFrame, IsSpace, cell_in, memory_of, with_memory, frame_of_memory, bytes_from, byte_or_zero}
 use Rattle.guest_space.specs.Access.{with_bytes}
-use Rattle.guest_space.proofs.Gets.{get-with_memory, frame_of_memory}
-use Rattle.guest_space.proofs.Spaces.{IsSpace-with_memory}
+use Rattle.guest_space.proofs.Gets.{get-with_memory}
+use Rattle.guest_space.proofs.Spaces.{HasBytes, HasBytes-memory_of, IsSpace-with_memory}
 
 pub SameRights-with_bytes : (m : Memory) (at : ℕ) (bytes : List ℕ) → SameRights m (with_bytes m at bytes)
 unfolding with_bytes
@@ -86,7 +86,7 @@ same_space s t sound_s sound_t same =
 -- a space whose memory has the same bytes as s, with the same rights, is s with that memory
 pub with_memory-unique : (s t : Space) (m : Memory) → IsSpace s → IsSpace t → SameRights (memory_of s) m → memory_of t ≡ m → t ≡ with_memory s m
 with_memory-unique s t m sound_s sound_t same is =
-    same_space t (with_memory s m) sound_t (IsSpace-with_memory s m sound_s) (is ∙ sym (memory_of-with_memory s m same))
+    same_space t (with_memory s m) sound_t (IsSpace-with_memory s m (subst HasBytes is (HasBytes-memory_of t sound_t)) sound_s) (is ∙ sym (memory_of-with_memory s m same))
 
 pub with_memory_same : (s : Space) → IsSpace s → with_memory s (memory_of s) ≡ s
 with_memory_same s sound = sym (with_memory-unique s s (memory_of s) sound sound (SameRights-refl (memory_of s)) refl)

@@ -11,19 +11,16 @@ use Rattle.std.specs.Cmp.{nat_cmp_total}
 use Rattle.std.specs.FinMap.{FinMap, get, len, entries, entries_sorted, get-entries, len-entries, len-insert, nat_cmp-IsAntisymmetric}
 use Rattle.std.specs.FinMap.Entries.{find, below_all, is_sorted, same_entries}
 use Rattle.rv_core.specs.Memory.{Memory}
-use Rattle.guest_space.specs.Space.{Space, Frame, in_run, blank, cell_in, memory_of, with_run, protected, with_memory}
+use Rattle.guest_space.specs.Space.{Space, Frame, in_run, blank, cell_in, memory_of, page_rights, with_run, protected, frame_in_run, with_memory, frame_of_memory}
 use Rattle.guest_space.specs.Run.{first_held, first_missing, is_held, if_held, if_missing}
 use Rattle.guest_space.specs.Access.{Forbidden, fault_of_cell, first_fault, with_bytes}
-use Rattle.guest_space.proofs.Gets.{get-with_run, get-protected, get-with_memory, frame_in_run, frame_of_memory}
+use Rattle.guest_space.proofs.Gets.{get-with_run, get-protected, get-with_memory}
 use Rattle.guest_space.proofs.Puts.{same_spaces}
 use Rattle.guest_space.proofs.FirstSome.{first_some-none}
 use Rattle.guest_space.proofs.Cells.{memory_of-with_memory, SameRights-with_bytes}
 use Rattle.guest_space.proofs.Bytes.{with_bytes-append}
 
 -- ---- the rights of a page
-
-abbrev pub page_rights : Space → ℕ → Option ℕ
-page_rights s q = option_map (λ (frame : Frame). frame.rights) (get {R = nat_cmp} s q)
 
 rights_in_run : (b : Bool) (frame : Frame) (o : Option Frame) → option_map (λ (f : Frame). f.rights) (cond b (Some frame) o) ≡ cond b (Some frame.rights) (option_map (λ (f : Frame). f.rights) o)
 rights_in_run true frame o = refl

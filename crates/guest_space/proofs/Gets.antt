@@ -9,7 +9,7 @@ use Rattle.std.specs.Option.{option_map}
 use Rattle.std.specs.declared.option.Option.{Option}
 use Rattle.std.specs.declared.option.Option.TheVariants.{None, Some}
 use Rattle.rv_core.specs.Memory.{Memory}
-use Rattle.guest_space.specs.Space.{Space, Frame, in_run, blank, with_run, without_run, protected, frame_with_rights, with_memory, frame_from}
+use Rattle.guest_space.specs.Space.{Space, Frame, in_run, blank, with_run, without_run, with_frames, protected, frame_in_run, with_memory, frame_of_memory}
 
 -- page numbers tie exactly where they are equal
 pub eq_by_nat_cmp : (q k : ℕ) → eq_by_cmp nat_cmp q k ≡ (q == k)
@@ -52,24 +52,16 @@ find-map f (e ∷ es) q =
     ∙ found f e q _ _ (find-map f es q)
     ∙ ap (λ b. option_map (f q) (cond b (Some e.1) (find nat_cmp q es))) (sym (eq_by_nat_cmp q e.0))
 
-get-mapped : (f : ℕ → Frame → Frame) (s : Space) (q : ℕ) → get (from_entries {R = nat_cmp} (map (λ e. (e.0, f e.0 e.1)) (entries s))) q ≡ option_map (f q) (get s q)
-get-mapped f s q =
+pub get-with_frames : (f : ℕ → Frame → Frame) (s : Space) (q : ℕ) → get (with_frames f s) q ≡ option_map (f q) (get s q)
+get-with_frames f s q =
     get-from_entries nat_cmp_total (map (λ e. (e.0, f e.0 e.1)) (entries s)) q
     ∙ find-map f (entries s) q
     ∙ ap (option_map (f q)) (sym (get-entries s q))
 
--- a page's frame with the rights that a run gets
-abbrev pub frame_in_run : ℕ → ℕ → ℕ → ℕ → Frame → Frame
-frame_in_run page n rights q frame = (frame_with_rights page n rights (q, frame)).1
-
 pub get-protected : (s : Space) (page n rights q : ℕ) → get (protected s page n rights) q ≡ option_map (frame_in_run page n rights q) (get s q)
 unfolding protected
-get-protected s page n rights q = get-mapped (frame_in_run page n rights) s q
-
--- a page's frame with the bytes that a memory has there
-abbrev pub frame_of_memory : Memory → ℕ → Frame → Frame
-frame_of_memory m q frame = (frame_from m (q, frame)).1
+get-protected s page n rights q = get-with_frames (frame_in_run page n rights) s q
 
 pub get-with_memory : (s : Space) (m : Memory) (q : ℕ) → get (with_memory s m) q ≡ option_map (frame_of_memory m q) (get s q)
 unfolding with_memory
-get-with_memory s m q = get-mapped (frame_of_memory m) s q
+get-with_memory s m q = get-with_frames (frame_of_memory m) s q

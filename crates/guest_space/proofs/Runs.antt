@@ -4,8 +4,8 @@ use Rattle.std.proofs.lemmas.Bool.{cases_eq}
 use Rattle.std.proofs.lemmas.Bool.Decides.{nat_tests}
 use Rattle.std.specs.Option.{option_map}
 use Rattle.std.specs.FinMap.{get, insert}
-use Rattle.guest_space.specs.Space.{Space, Frame, in_run, blank, with_run, protected}
-use Rattle.guest_space.proofs.Gets.{get-protected, frame_in_run}
+use Rattle.guest_space.specs.Space.{Space, Frame, in_run, blank, with_run, protected, frame_in_run}
+use Rattle.guest_space.proofs.Gets.{get-protected}
 use Rattle.guest_space.proofs.Puts.{same_spaces, get-put_here, get-put_there}
 
 pub with_run-zero : (s : Space) (page rights : ℕ) → with_run s page 0 rights ≡ s

@@ -3,3 +3,4 @@ pub mod First
 pub mod Access
 pub mod Run
 pub mod Running
+pub mod Regions

@@ -1,7 +1,9 @@
 -- The memory of a process: pages of 4,096 bytes by number, each with its rights, and the map from addresses
 -- to bytes with rights that they make.
 use Rattle.std.specs.Prelude.{◌≡◌, ℕ, zero, suc, ◌+◌, ◌*◌, ◌%◌, ◌/◌, ◌^◌, ◌<◌, ◌≤◌, Bool, if◌then◌else◌, ◌&&◌, nat_lt, nat_le, List, [], ◌∷◌, map, length, slice_index, replicate, refl}
+use Rattle.std.specs.List.{All}
 use Rattle.std.specs.Coded.{Coded, code_by, coded×, coded_ℕ, coded_list}
+use Rattle.std.specs.Option.{option_map}
 use Rattle.std.specs.Ordering.{nat_cmp}
 use Rattle.std.specs.FinMap.{FinMap, get, insert, remove, entries, from_entries}
 use Rattle.std.specs.declared.option.Option.{Option}
@@ -15,7 +17,9 @@ pub record Frame : Type 0 where
 
 -- A page is stored as its rights and its bytes.
 abbrev pub frame_code : Coded Frame
-frame_code = code_by (ℕ × List ℕ) (coded× coded_ℕ (coded_list coded_ℕ)) (λ f. (f.rights, f.bytes)) (λ p. record { rights = p.0; bytes = p.1 }) (λ _. refl)
+frame_code =
+    code_by (ℕ × List ℕ) (coded× coded_ℕ (coded_list coded_ℕ))
+    (λ f. (f.rights, f.bytes)) (λ p. record { rights = p.0; bytes = p.1 }) (λ _. refl)
 
 -- The pages by number: page p has the addresses from 4,096 p on.
 abbrev pub Space : Type 0
@@ -28,6 +32,10 @@ cell_in (Some frame) at = Some (record { byte = slice_index frame.bytes at; righ
 -- The byte at each address, with the rights of its page.
 abbrev pub memory_of : Space → Memory
 memory_of s = λ a. cell_in (get s (a / 4096)) (a % 4096)
+
+-- The rights of a page, where it is there.
+abbrev pub page_rights : Space → ℕ → Option ℕ
+page_rights s q = option_map (λ (frame : Frame). frame.rights) (get s q)
 
 -- The pages of a run.
 abbrev pub in_run : ℕ → ℕ → ℕ → Bool
@@ -47,12 +55,18 @@ unfoldable pub without_run : Space → ℕ → ℕ → Space
 without_run s page zero = s
 without_run s page (suc n) = remove (without_run s page n) (page + n)
 
-abbrev pub frame_with_rights : ℕ → ℕ → ℕ → (ℕ × Frame) → (ℕ × Frame)
-frame_with_rights page count rights e = (e.0, record { rights = (if in_run page count e.0 then rights else (e.1).rights); bytes = (e.1).bytes })
+-- The same pages, each with what f makes of its number and its frame.
+abbrev pub with_frames : (ℕ → Frame → Frame) → Space → Space
+with_frames f s = from_entries (map (λ e. (e.0, f e.0 e.1)) (entries s))
+
+-- A page's frame, with other rights if the page is in a run.
+abbrev pub frame_in_run : ℕ → ℕ → ℕ → ℕ → Frame → Frame
+frame_in_run page count rights q frame =
+    record frame { rights = if in_run page count q then rights else frame.rights }
 
 -- The same pages, with other rights in a run.
 unfoldable pub protected : Space → ℕ → ℕ → ℕ → Space
-protected s page count rights = from_entries (map (frame_with_rights page count rights) (entries s))
+protected s page count rights = with_frames (frame_in_run page count rights) s
 
 abbrev pub byte_or_zero : Option Cell → ℕ
 byte_or_zero None = 0
@@ -63,18 +77,20 @@ unfoldable pub bytes_from : Memory → ℕ → ℕ → List ℕ
 bytes_from m at zero = []
 bytes_from m at (suc n) = byte_or_zero (m at) ∷ bytes_from m (at + 1) n
 
-abbrev pub frame_from : Memory → (ℕ × Frame) → (ℕ × Frame)
-frame_from m e = (e.0, record { rights = (e.1).rights; bytes = bytes_from m (e.0 * 4096) 4096 })
+-- A page's frame, with the bytes that a memory has there.
+abbrev pub frame_of_memory : Memory → ℕ → Frame → Frame
+frame_of_memory m q frame = record frame { bytes = bytes_from m (q * 4096) 4096 }
 
 -- The same pages and rights, with the bytes that a memory has there.
 unfoldable pub with_memory : Space → Memory → Space
-with_memory s m = from_entries (map (frame_from m) (entries s))
+with_memory s m = with_frames (frame_of_memory m) s
 
--- A page number that a process may have, with a whole page of bytes.
+-- A page number that a process may have, with a whole page of bytes and rights that there are.
 pub record IsFrame (page : ℕ) (frame : Frame) : Type 0 where
   pub above : 1 ≤ page
   pub below : page < 2 ^ 26
   pub whole : length frame.bytes ≡ 4096
+  pub small : All (λ byte. byte < 256) frame.bytes
   pub rights : frame.rights < 8
 
 -- Each page is one that a process may have.

@@ -81,7 +81,7 @@ base_set os w p t context new processes threads memory thread =
 
 -- a process that has exited, and no thread
 pub base_over : (os : LibOs) (w : World) (p : ProcessNote) (code : ℕ) (live : Live) (ready : List ℕ) → os.processes ≡ p ∷ [] → p.code ≡ Some code → os.threads ≡ [] →
-    ready ≡ [] → w.objects.ready ≡ [] → base os (with_objects w (record w.objects { live = live; ready = ready })) ≡ base os w
+    ready ≡ [] → w.objects.lists.ready ≡ [] → base os (with_objects w (record w.objects { live = live; ready = ready })) ≡ base os w
 base_over os w p code live ready processes ended threads none was =
     let ps = processes_over os.processes p code live processes ended ∙ sym (processes_over os.processes p code w.objects.live processes ended) in
     let ts = threads_over os.threads live threads ∙ sym (threads_over os.threads w.objects.live threads) in

@@ -9,7 +9,7 @@ use Rattle.std.specs.declared.option.Option.TheVariants.{None, Some}
 use Rattle.std.proofs.Common.{refl, sym, ap, ◌∙◌, subst, arith, eq-eqb, ne_eqb, le-leb}
 use Rattle.std.proofs.lemmas.Bool.{and_from, or_from}
 use Rattle.std.proofs.lemmas.Option.{none-some, same_Some}
-use Rattle.abi_calls.specs.declared.call.StreamName.TheVariants as stream
+use Rattle.bas_names.specs.declared.StreamName.TheVariants as stream
 use Rattle.abi_calls.specs.declared.object.Object.TheVariants.{Event, Stream}
 use Rattle.abi_calls.specs.declared.reply.Reply.{Reply}
 use Rattle.abi_calls.specs.declared.reply.Reply.TheVariants.{Done}
@@ -175,8 +175,8 @@ keeps_start_thread os c w w' r fits sound abi =
         thread = thread;
         records = records;
         ready = ap (λ ts. ts ++ t ∷ []) fits.thread.start.ready;
-        suspended = none_rests t w.objects.suspended fits.thread.suspended;
+        suspended = none_rests t w.objects.lists.suspended fits.thread.suspended;
         current = ap (kept (λ k. k == t)) fits.thread.start.current;
       };
-      means = ap (λ ts. Runs (record (begun (unstarted w) (child_memory w c) (child_context w c)) { ready = ts })) (first_ready thread w.objects.ready fits.thread.start.ready);
+      means = ap (λ ts. Runs (record (begun (unstarted w) (child_memory w c) (child_context w c)) { ready = ts })) (first_ready thread w.objects.lists.ready fits.thread.start.ready);
     })

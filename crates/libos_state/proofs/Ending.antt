@@ -11,7 +11,7 @@ use Rattle.abi_calls.specs.declared.reply.Reply.{Reply}
 use Rattle.abi_calls.specs.declared.reply.Reply.TheVariants.{Done}
 use Rattle.abi_calls.specs.Objects.{Object, Objects, Live, object_at, running, contains, kept, is_thread_of, with_object, without_handles}
 use Rattle.abi_calls.specs.World.{World, with_objects}
-use Rattle.abi_calls.specs.Processes.{ended, closed, process_exited, without_threads}
+use Rattle.abi_calls.specs.Processes.{ended, closed, process_exit_row, without_threads}
 use Rattle.abi_calls.specs.Abi.{Abi}
 use Rattle.abi_calls.specs.Sound.{IsSound}
 use Rattle.abi_calls.proofs.NumberMaps.{get_same}
@@ -35,9 +35,9 @@ use Rattle.libos_state.proofs.Idle.{exit_code_is, fits_up}
 pub record KeepsEnding (o o' : Objects) (process thread : ℕ) : Type 0 where
   pub process_stays : object_at o' process ≡ object_at o process
   pub thread_stays : object_at o' thread ≡ object_at o thread
-  pub ready : o'.ready ≡ []
-  pub suspended : o'.suspended ≡ []
-  pub current : o'.current ≡ Some thread
+  pub ready : o'.lists.ready ≡ []
+  pub suspended : o'.lists.suspended ≡ []
+  pub current : o'.lists.current ≡ Some thread
 
 pub ending_over : (os : LibOs) (cont : Option Cont) (o o' : Objects) (c c' : Cont) → c'.event ≡ c.event → c'.numbers ≡ c.numbers → (fits : FitsEnding os o c) →
     KeepsEnding o o' fits.upcall.process fits.upcall.thread → FitsEnding (record os { cont = cont }) o' c'
@@ -179,7 +179,7 @@ module _ (os : LibOs) (c : Cont) (w : World) (fits : FitsEnding os w.objects c) 
 pub keeps_exit_process : (os : LibOs) (c : Cont) (w w' : World) (r : Reply) → FitsEnding os w.objects c → IsSound w.objects → Abi w (asked os c ExitProcess) r w' → Holds os c ExitProcess w r w'
 keeps_exit_process os c w w' r fits sound abi =
     let after : World = with_objects w (exited_objects os c w fits) in
-    let row = ap (process_exited w (upcall_in c.event).process (number c 0 % 256)) (runs_still os c w fits).runs in
+    let row = ap (process_exit_row w (upcall_in c.event).process (number c 0 % 256)) (runs_still os c w fits).runs in
     holds_by os c ExitProcess w w' r (Done, after) abi row (record {
       fits = fits_up (ends os) after.objects (Some fits.code) fits.up (exit_code_is os fits.process (Some fits.code) fits.processes fits.first fits.ended) (exited_over os c w fits);
       means = ap (meant_idle (ends os) after) fits.up ∙ ap Runs (exited_base os c w fits);

@@ -12,9 +12,9 @@ use Rattle.abi_calls.specs.declared.reply.Reply.{Reply}
 use Rattle.abi_calls.specs.declared.reply.Reply.TheVariants.{Handle, NoRoom}
 use Rattle.abi_calls.specs.Objects.{Object, Objects, Live, object_at, running, number_of, is_process, is_thread, with_object}
 use Rattle.abi_calls.specs.World.{World, Answer, with_objects}
-use Rattle.abi_calls.specs.Processes.{process_created}
-use Rattle.abi_calls.specs.Threads.{thread_created}
-use Rattle.abi_calls.specs.Abi.{Abi, answer, drawn}
+use Rattle.abi_calls.specs.Processes.{process_create_row}
+use Rattle.abi_calls.specs.Threads.{thread_create_row}
+use Rattle.abi_calls.specs.Abi.{Abi, answer, new_number}
 use Rattle.abi_calls.specs.Sound.{IsSound}
 use Rattle.abi_calls.proofs.NumberMaps.{get_same}
 use Rattle.mono_model.specs.Program.{plain_program}
@@ -54,12 +54,12 @@ made_behind live handles h x free long opened =
 
 -- ---- a process
 
-process_row : (w : World) (h : ℕ) → number_of is_process w.objects.live ≡ 0 → process_created w h ≡ (Handle h, with_objects w (with_object w.objects h (Process empty None)))
+process_row : (w : World) (h : ℕ) → number_of is_process w.objects.live ≡ 0 → process_create_row w h ≡ (Handle h, with_objects w (with_object w.objects h (Process empty None)))
 process_row w h none = ap {B = Answer} (λ n. if nat_le 16 n then (NoRoom, w) else (Handle h, with_objects w (with_object w.objects h (Process empty None)))) none
 
 pub keeps_create_process : (os : LibOs) (c : Cont) (w w' : World) (r : Reply) → FitsStage os w.objects c CreateProcess → IsSound w.objects → Abi w (asked os c CreateProcess) r w' → Holds os c CreateProcess w r w'
 keeps_create_process os c w w' r fits sound abi =
-    let h = drawn r in
+    let h = new_number r in
     let child : Object = Process empty None in
     let o = with_object w.objects h child in
     let handles = c.handles ++ h ∷ [] in
@@ -90,18 +90,18 @@ keeps_create_process os c w w' r fits sound abi =
 -- ---- a thread
 
 thread_row : (w : World) (p h : ℕ) (context : Context) (memory : Space) → object_at w.objects p ≡ Some (Process memory None) → number_of is_thread w.objects.live ≡ 0 →
-    thread_created w p context (running (object_at w.objects p)) h ≡ (Handle h, with_objects w (record (with_object w.objects h (Thread p context)) { suspended = w.objects.suspended ++ h ∷ [] }))
+    thread_create_row w p context (running (object_at w.objects p)) h ≡ (Handle h, with_objects w (record (with_object w.objects h (Thread p context)) { suspended = w.objects.lists.suspended ++ h ∷ [] }))
 thread_row w p h context memory there none =
-    ap (λ x. thread_created w p context (running x) h) there
-    ∙ ap {B = Answer} (λ n. if nat_le 64 n then (NoRoom, w) else (Handle h, with_objects w (record (with_object w.objects h (Thread p context)) { suspended = w.objects.suspended ++ h ∷ [] }))) none
+    ap (λ x. thread_create_row w p context (running x) h) there
+    ∙ ap {B = Answer} (λ n. if nat_le 64 n then (NoRoom, w) else (Handle h, with_objects w (record (with_object w.objects h (Thread p context)) { suspended = w.objects.lists.suspended ++ h ∷ [] }))) none
 
 pub keeps_create_thread : (os : LibOs) (c : Cont) (w w' : World) (r : Reply) → FitsStage os w.objects c CreateThread → IsSound w.objects → Abi w (asked os c CreateThread) r w' → Holds os c CreateThread w r w'
 keeps_create_thread os c w w' r fits sound abi =
-    let h = drawn r in
+    let h = new_number r in
     let p = file_or_child c in
     let context = start_context (plain_program c.bytes) (arguments c) in
     let thread : Object = Thread p context in
-    let o : Objects = record (with_object w.objects h thread) { suspended = w.objects.suspended ++ h ∷ [] } in
+    let o : Objects = record (with_object w.objects h thread) { suspended = w.objects.lists.suspended ++ h ∷ [] } in
     let handles = c.handles ++ h ∷ [] in
     let count = fits.count in
     let row : answer w (asked os c CreateThread) r ≡ (Handle h, with_objects w o) = thread_row w p h context fits.memory fits.child (number_none is_thread w.objects.live fits.no_thread) in
@@ -130,7 +130,7 @@ keeps_create_thread os c w w' r fits sound abi =
 
 pub keeps_create_event : (os : LibOs) (c : Cont) (w w' : World) (r : Reply) → FitsStage os w.objects c CreateEvent → IsSound w.objects → Abi w (asked os c CreateEvent) r w' → Holds os c CreateEvent w r w'
 keeps_create_event os c w w' r fits sound abi =
-    let h = drawn r in
+    let h = new_number r in
     let event : Object = Event false in
     let o = with_object w.objects h event in
     let handles = c.handles ++ h ∷ [] in

@@ -7,7 +7,7 @@ use Rattle.std.proofs.Common.{refl, sym, ap, ◌∙◌, arith, le-ltb, ne_eqb, e
 use Rattle.std.proofs.lemmas.Bool.{eqb-false}
 use Rattle.std.proofs.lemmas.List.{length_push, get_or_push}
 use Rattle.bas_edge.specs.Files.{file_of, file_bytes}
-use Rattle.abi_calls.specs.declared.call.StreamName.TheVariants.{File, ConIn, ConOut, ConErr}
+use Rattle.bas_names.specs.declared.StreamName.TheVariants.{File, ConIn, ConOut, ConErr}
 use Rattle.abi_calls.specs.declared.object.Object.TheVariants.{Stream}
 use Rattle.abi_calls.specs.declared.reply.Reply.{Reply}
 use Rattle.abi_calls.specs.declared.reply.Reply.TheVariants.{Done, Handle, NotFound, Busy, TooBig}
@@ -15,9 +15,9 @@ use Rattle.abi_calls.specs.declared.settings.Positions.{Positions}
 use Rattle.abi_calls.specs.declared.settings.Settings.{Settings}
 use Rattle.abi_calls.specs.Objects.{Objects, object_at, number_of, with_object}
 use Rattle.abi_calls.specs.World.{World, with_objects}
-use Rattle.abi_calls.specs.Streams.{stream_of, opened, stream_opened, file_opened}
-use Rattle.abi_calls.specs.Processes.{is_running, is_acceptable, configured}
-use Rattle.abi_calls.specs.Abi.{Abi, answer, drawn}
+use Rattle.abi_calls.specs.Streams.{stream_of, opened, stream_open_row, file_opened}
+use Rattle.abi_calls.specs.Processes.{is_running, is_acceptable, configure_row}
+use Rattle.abi_calls.specs.Abi.{Abi, answer, new_number}
 use Rattle.abi_calls.specs.Sound.{IsSound}
 use Rattle.abi_calls.proofs.NumberMaps.{get_same}
 use Rattle.mono_model.specs.Starting.{started, started_if, started_with}
@@ -36,7 +36,7 @@ use Rattle.libos_state.proofs.Starts.{IsUnbegun, unbegun_opening, unbegun_opened
 -- ---- the host gets the settings
 
 configure_row : (w : World) (settings : Settings) (positions : Positions) → is_acceptable settings ≡ true → w.objects.positions.turns ≡ 0 → number_of is_running w.objects.live ≡ 0 →
-    configured w settings positions ≡ (Done, with_objects w (record w.objects { settings = settings; positions = positions }))
+    configure_row w settings positions ≡ (Done, with_objects w (record w.objects { settings = settings; positions = positions }))
 configure_row w settings positions acceptable unturned idle = λ i.
     if not (acceptable i) then (TooBig, w)
     else (if not (unturned i == 0) || nat_lt 0 (idle i) then (Busy, w)
@@ -56,7 +56,7 @@ keeps_configure os c w w' r fits sound abi =
 -- ---- an end of the console is opened
 
 console_opens : (w : World) (h : ℕ) (a b : Bool) →
-    stream_opened w (if a then ConIn else (if b then ConOut else ConErr)) false false h ≡ opened w h (if a then ConIn else (if b then ConOut else ConErr))
+    stream_open_row w (if a then ConIn else (if b then ConOut else ConErr)) false false h ≡ opened w h (if a then ConIn else (if b then ConOut else ConErr))
 console_opens w h true b = refl
 console_opens w h false true = refl
 console_opens w h false false = refl
@@ -77,7 +77,7 @@ opens_stands os c w w' handles false start unbegun ends few some same = record {
 
 pub keeps_open_console : (os : LibOs) (c : Cont) (w w' : World) (r : Reply) → FitsStage os w.objects c OpenConsole → IsSound w.objects → Abi w (asked os c OpenConsole) r w' → Holds os c OpenConsole w r w'
 keeps_open_console os c w w' r fits sound abi =
-    let h = drawn r in
+    let h = new_number r in
     let name = console_name (length c.handles) in
     let o = with_object w.objects h (Stream name) in
     let row : answer w (asked os c OpenConsole) r ≡ (Handle h, with_objects w o) = console_opens w h (length c.handles == 0) (length c.handles == 1) in
@@ -91,7 +91,7 @@ keeps_open_console os c w w' r fits sound abi =
 -- ---- the program's file is opened, or there is none
 
 open_row : (w : World) (name : List ℕ) (h : ℕ) (found : Option (List ℕ)) → 1 ≤ length name → length name ≤ 80 → file_of w.contents.files name ≡ found →
-    stream_opened w (File name) false false h ≡ file_opened w name false false h found
+    stream_open_row w (File name) false false h ≡ file_opened w name false false h found
 open_row w name h found some short is =
     let fits : nat_lt 80 (length name) ≡ false = le-ltb 80 (length name) short in
     let named : (length name == 0) ≡ false = ne_eqb (length name) 0 (λ e. omega arith) in
@@ -100,10 +100,10 @@ open_row w name h found some short is =
 opened_program : (os : LibOs) (c : Cont) (w w' : World) (r : Reply) → FitsOpening os w.objects c 3 → Abi w (asked os c OpenProgram) r w' → (found : Option (List ℕ)) → file_of w.contents.files (program_name c) ≡ found →
     Holds os c OpenProgram w r w'
 opened_program os c w w' r fits abi None is =
-    by_row os c OpenProgram w w' r (NotFound, w) abi (open_row w (program_name c) (drawn r) None fits.start.names.named fits.start.names.short is)
+    by_row os c OpenProgram w w' r (NotFound, w) abi (open_row w (program_name c) (new_number r) None fits.start.names.named fits.start.names.short is)
     (record { fits = fits.start.current; means = sym (ap (started_if (unstarted w) (arguments c)) is) })
 opened_program os c w w' r fits abi (Some bytes) is =
-    let h = drawn r in
+    let h = new_number r in
     let name = program_name c in
     let handles = c.handles ++ h ∷ [] in
     let o = with_object w.objects h (Stream (File name)) in

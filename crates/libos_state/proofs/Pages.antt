@@ -8,16 +8,16 @@ use Rattle.std.specs.declared.option.Option.TheVariants.{None, Some}
 use Rattle.std.proofs.Common.{refl, sym, ap, ◌∙◌, arith, le-leb, leb-true, lt-ltb, ltb-true, le-ltb}
 use Rattle.std.proofs.lemmas.Bool.{and_from, and_parts, and_right, cond-true}
 use Rattle.std.proofs.lemmas.Bool.Decides.{nat_tests}
-use Rattle.guest_space.specs.Space.{Space, Frame, in_run, memory_of, with_run, protected, with_memory}
+use Rattle.guest_space.specs.Space.{Space, Frame, in_run, memory_of, page_rights, with_run, protected, with_memory}
 use Rattle.guest_space.specs.Run.{is_run, first_held, first_missing}
 use Rattle.guest_space.specs.Access.{first_fault, with_bytes}
-use Rattle.guest_space.proofs.Filling.{page_rights, page_rights-with_run, page_rights-protected, page_rights-with_memory, is_held-rights, len-with_run, len-protected, len-with_memory}
+use Rattle.guest_space.proofs.Filling.{page_rights-with_run, page_rights-protected, page_rights-with_memory, is_held-rights, len-with_run, len-protected, len-with_memory}
 use Rattle.rv_core.specs.Memory.{Memory}
 use Rattle.abi_calls.specs.declared.object.Object.TheVariants.{Process, Stream}
 use Rattle.abi_calls.specs.declared.reply.Reply.TheVariants.{Done, Exists, BadAddress, NoRoom, TooBig}
 use Rattle.abi_calls.specs.Objects.{Object, Objects, object_at, running, is_thread, with_object}
 use Rattle.abi_calls.specs.World.{World}
-use Rattle.abi_calls.specs.Memory.{with_pages, allocated, reprotected, memory_written, unless_fault}
+use Rattle.abi_calls.specs.Memory.{with_pages, memory_allocate_row, memory_protect_row, memory_write_row, unless_fault}
 use Rattle.abi_calls.proofs.NumberMaps.{get_none, get_same, get_other}
 use Rattle.mono_model.specs.Program.{page_count}
 use Rattle.mono_model.specs.Starting.{STACK_PAGE, STACK_PAGES}
@@ -103,26 +103,26 @@ pages_stacked s count few has = record {
 
 module _ (w : World) (p : ℕ) (s : Space) (there : object_at w.objects p ≡ Some (Process s None)) where
   pub allocate_row : (page count rights : ℕ) → is_run page count ≡ true → nat_le rights 7 ≡ true → first_held s page count ≡ None → len s + count ≤ 1024 →
-      allocated w p page count rights (running (object_at w.objects p)) ≡ (Done, with_pages w p (with_run s page count rights))
+      memory_allocate_row w p page count rights (running (object_at w.objects p)) ≡ (Done, with_pages w p (with_run s page count rights))
   allocate_row page count rights run known free few =
       let room : nat_lt 1024 (len s + count) ≡ false = le-ltb 1024 (len s + count) few in
-      ap (λ x. allocated w p page count rights (running x)) there
+      ap (λ x. memory_allocate_row w p page count rights (running x)) there
       ∙ (λ i. if not (run i && known i) then (BadAddress, w)
       else (if is_some (free i) then (Exists, w)
       else (if room i then (NoRoom, w)
       else (Done, with_pages w p (with_run s page count rights)))))
 
   pub protect_row : (page count rights : ℕ) → (count == 0) ≡ false → first_missing s page count ≡ None → nat_lt 7 rights ≡ false →
-      reprotected w p page count rights (running (object_at w.objects p)) ≡ (Done, with_pages w p (protected s page count rights))
+      memory_protect_row w p page count rights (running (object_at w.objects p)) ≡ (Done, with_pages w p (protected s page count rights))
   protect_row page count rights some held known =
-      ap (λ x. reprotected w p page count rights (running x)) there
+      ap (λ x. memory_protect_row w p page count rights (running x)) there
       ∙ (λ i. if some i || (is_some (held i) || known i) then (BadAddress, w) else (Done, with_pages w p (protected s page count rights)))
 
   pub write_row : (address : ℕ) (bytes : List ℕ) → length bytes ≤ 65536 → first_fault (memory_of s) 2 address (length bytes) ≡ None →
-      memory_written w p address bytes (running (object_at w.objects p)) ≡ (Done, with_pages w p (with_memory s (with_bytes (memory_of s) address bytes)))
+      memory_write_row w p address bytes (running (object_at w.objects p)) ≡ (Done, with_pages w p (with_memory s (with_bytes (memory_of s) address bytes)))
   write_row address bytes few free =
       let short : nat_lt 65536 (length bytes) ≡ false = le-ltb 65536 (length bytes) few in
-      ap (λ x. memory_written w p address bytes (running x)) there
+      ap (λ x. memory_write_row w p address bytes (running x)) there
       ∙ (λ i. if short i then (TooBig, w) else unless_fault w (free i) (Done, with_pages w p (with_memory s (with_bytes (memory_of s) address bytes))))
 
 -- ---- the process that is made gets other pages

@@ -6,14 +6,14 @@ use Rattle.std.proofs.Common.{refl, sym, ap, ◌∙◌, arith, le-ltb, eqb-true,
 use Rattle.std.proofs.lemmas.Bool.{eqb-false}
 use Rattle.std.proofs.lemmas.List.{nil_from_length, take_all}
 use Rattle.bas_edge.specs.Files.{file_bytes}
-use Rattle.abi_calls.specs.declared.call.StreamName.{StreamName}
-use Rattle.abi_calls.specs.declared.call.StreamName.TheVariants.{File}
+use Rattle.bas_names.specs.declared.StreamName.{StreamName}
+use Rattle.bas_names.specs.declared.StreamName.TheVariants.{File}
 use Rattle.abi_calls.specs.declared.object.Object.TheVariants.{Stream}
 use Rattle.abi_calls.specs.declared.reply.Reply.{Reply}
 use Rattle.abi_calls.specs.declared.reply.Reply.TheVariants.{Done, Bytes, Length, TooBig}
 use Rattle.abi_calls.specs.Objects.{Object, Objects, object_at, without_handles}
 use Rattle.abi_calls.specs.World.{World, Answer, with_objects}
-use Rattle.abi_calls.specs.Streams.{stream_of, stream_length, stream_read, read_from}
+use Rattle.abi_calls.specs.Streams.{stream_of, stream_length_row, stream_read_row, read_from}
 use Rattle.abi_calls.specs.Processes.{closed}
 use Rattle.abi_calls.specs.Abi.{Abi, answer, is_file}
 use Rattle.abi_calls.specs.Sound.{IsSound}
@@ -61,7 +61,7 @@ pub keeps_program_length : (os : LibOs) (c : Cont) (w w' : World) (r : Reply) �
 keeps_program_length os c w w' r fits sound abi =
     let size = length (program_file w c) in
     let row : answer w (asked os c ProgramLength) r ≡ (Length size, w) =
-    ap (λ x. stream_length w (stream_of x)) fits.file ∙ ap {B = Answer} (λ x. (Length (length (file_bytes w.contents.files (name_in (stream_of x)))), w)) (sym fits.file) in
+    ap (λ x. stream_length_row w (stream_of x)) fits.file ∙ ap {B = Answer} (λ x. (Length (length (file_bytes w.contents.files (name_in (stream_of x)))), w)) (sym fits.file) in
     by_row os c ProgramLength w w' r (Length size, w) abi row (length_stands os c w size (size == 0) fits refl refl)
 
 -- ---- a piece is read
@@ -103,10 +103,10 @@ piece_stands os c w false false fits some more =
     }
 
 read_row : (w : World) (offset count : ℕ) (name : List ℕ) (x : Option Object) → count ≤ 65536 → x ≡ Some (Stream (File name)) →
-    stream_read w offset count (stream_of x) ≡ (Bytes (take count (drop offset (file_bytes w.contents.files (name_in (stream_of x))))), w)
+    stream_read_row w offset count (stream_of x) ≡ (Bytes (take count (drop offset (file_bytes w.contents.files (name_in (stream_of x))))), w)
 read_row w offset count name x small is =
     let few : nat_lt 65536 count ≡ false = le-ltb 65536 count small in
-    ap (λ y. stream_read w offset count (stream_of y)) is
+    ap (λ y. stream_read_row w offset count (stream_of y)) is
     ∙ ap {B = Answer} (λ b. if b then (TooBig, w) else read_from w offset count (File name)) few
     ∙ ap {B = Answer} (λ y. (Bytes (take count (drop offset (file_bytes w.contents.files (name_in (stream_of y))))), w)) (sym is)
 

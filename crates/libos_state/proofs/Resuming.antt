@@ -12,7 +12,7 @@ use Rattle.abi_calls.specs.declared.reply.Reply.{Reply}
 use Rattle.abi_calls.specs.declared.reply.Reply.TheVariants.{Done, Busy}
 use Rattle.abi_calls.specs.Objects.{Objects, Live, object_at, running, with_object, without, kept}
 use Rattle.abi_calls.specs.World.{World, with_objects}
-use Rattle.abi_calls.specs.Threads.{is_resting, started, thread_resumed, thread_set}
+use Rattle.abi_calls.specs.Threads.{is_resting, started, thread_resume_row, thread_context_row}
 use Rattle.abi_calls.specs.Abi.{Abi}
 use Rattle.abi_calls.specs.Sound.{IsSound}
 use Rattle.abi_calls.proofs.NumberMaps.{get_same, get_other}
@@ -34,12 +34,12 @@ use Rattle.libos_state.proofs.Served.{records_over, records_on, trap_thread, tra
 
 -- The rows, where the thread rests.
 row_set : (w : World) (t p : ℕ) (old new : Context) → object_at w.objects t ≡ Some (Thread p old) → is_resting w.objects t ≡ true →
-    thread_set w t new (object_at w.objects t) ≡ (Done, with_objects w (with_object w.objects t (Thread p new)))
-row_set w t p old new there rests = ap (thread_set w t new) there ∙ cond-true (is_resting w.objects t) (Done, with_objects w (with_object w.objects t (Thread p new))) (Busy, w) rests
+    thread_context_row w t new (object_at w.objects t) ≡ (Done, with_objects w (with_object w.objects t (Thread p new)))
+row_set w t p old new there rests = ap (thread_context_row w t new) there ∙ cond-true (is_resting w.objects t) (Done, with_objects w (with_object w.objects t (Thread p new))) (Busy, w) rests
 
 row_resumed : (w : World) (t p : ℕ) (context : Context) → object_at w.objects t ≡ Some (Thread p context) → is_resting w.objects t ≡ true →
-    thread_resumed w t (object_at w.objects t) ≡ (Done, with_objects w (started w.objects t))
-row_resumed w t p context there rests = ap (thread_resumed w t) there ∙ cond-true (is_resting w.objects t) (Done, with_objects w (started w.objects t)) (Busy, w) rests
+    thread_resume_row w t (object_at w.objects t) ≡ (Done, with_objects w (started w.objects t))
+row_resumed w t p context there rests = ap (thread_resume_row w t) there ∙ cond-true (is_resting w.objects t) (Done, with_objects w (started w.objects t)) (Busy, w) rests
 
 -- The thread has other registers: all else is as it was.
 module _ (os : LibOs) (c : Cont) (w : World) (fits : FitsServed os w.objects c) where
@@ -94,7 +94,7 @@ keeps_set_context os c w w' r fits sound abi =
 kept_none : (t h : ℕ) (current : Option ℕ) → current ≡ Some h → t ≡ h → kept (λ k. k == t) current ≡ None
 kept_none t h current is same = ap (kept (λ k. k == t)) is ∙ cond-true (h == t) None (Some h) (eq-eqb h t (sym same))
 
-started_ready : (o : Objects) (t h : ℕ) → o.ready ≡ [] → t ≡ h → o.ready ++ t ∷ [] ≡ h ∷ []
+started_ready : (o : Objects) (t h : ℕ) → o.lists.ready ≡ [] → t ≡ h → o.lists.ready ++ t ∷ [] ≡ h ∷ []
 started_ready o t h ready same = λ i. ready i ++ same i ∷ []
 
 module _ (os : LibOs) (c : Cont) (w : World) (fits : FitsServed os w.objects c) where
@@ -106,13 +106,13 @@ module _ (os : LibOs) (c : Cont) (w : World) (fits : FitsServed os w.objects c) 
     records = records_on os None w.objects.live fits.process fits.thread fits.records;
     ready = started_ready w.objects (upcall_in c.event).thread fits.thread.handle fits.ready (trap_thread os w.objects c fits);
     suspended = ap (λ xs. without xs (upcall_in c.event).thread) fits.suspended;
-    current = kept_none (upcall_in c.event).thread fits.thread.handle w.objects.current fits.current (trap_thread os w.objects c fits);
+    current = kept_none (upcall_in c.event).thread fits.thread.handle w.objects.lists.current fits.current (trap_thread os w.objects c fits);
   }
 
   resumed_base : base os (with_objects w (started w.objects (upcall_in c.event).thread)) ≡ made_ready (base os w) (caller_in os c).thread
   resumed_base =
       let t = (upcall_in c.event).thread in
-      let ready : tids_of os.threads (w.objects.ready ++ t ∷ []) ≡ tids_of os.threads w.objects.ready ++ (caller_in os c).thread ∷ [] =
+      let ready : tids_of os.threads (w.objects.lists.ready ++ t ∷ []) ≡ tids_of os.threads w.objects.lists.ready ++ (caller_in os c).thread ∷ [] =
       ap (λ xs. tids_of os.threads (xs ++ t ∷ [])) fits.ready
       ∙ tids_one os.threads fits.thread t fits.records.threads (trap_thread os w.objects c fits)
       ∙ (λ i. tids_of os.threads (sym fits.ready i) ++ sym (caller_thread os w.objects c fits) i ∷ []) in

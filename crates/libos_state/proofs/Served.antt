@@ -110,7 +110,7 @@ pub caller_process : (os : LibOs) (o : Objects) (c : Cont) (fits : FitsServed os
 caller_process os o c fits = ap pid_of (process_found os.processes fits.process (upcall_in c.event).process fits.records.processes (trap_process os o c fits))
 
 -- The thread that trapped rests: it is current.
-rests : (o : Objects) (t h : ℕ) → o.suspended ≡ [] → o.current ≡ Some h → t ≡ h → is_resting o t ≡ true
+rests : (o : Objects) (t h : ℕ) → o.lists.suspended ≡ [] → o.lists.current ≡ Some h → t ≡ h → is_resting o t ≡ true
 rests o t h suspended current same =
     (λ i. contains (suspended i) t || is_at t (current i)) ∙ eq-eqb h t (sym same)
 

@@ -4,8 +4,8 @@ use Rattle.std.specs.Ordering.{nat_cmp}
 use Rattle.std.specs.FinMap.{get, insert}
 use Rattle.std.specs.declared.option.Option.TheVariants.{None, Some}
 use Rattle.std.proofs.Common.{refl, ap, arith}
-use Rattle.abi_calls.specs.declared.call.StreamName.{StreamName}
-use Rattle.abi_calls.specs.declared.call.StreamName.TheVariants as stream
+use Rattle.bas_names.specs.declared.StreamName.{StreamName}
+use Rattle.bas_names.specs.declared.StreamName.TheVariants as stream
 use Rattle.abi_calls.specs.declared.object.Object.TheVariants.{Stream}
 use Rattle.abi_calls.specs.Objects.{Object, Objects, Live, is_process, is_thread, with_object, without_handles, kept}
 use Rattle.abi_calls.specs.Abi.{is_file}
@@ -19,7 +19,7 @@ use Rattle.libos_state.specs.Fits.{FitsStart, FitsOpening, NoneLive, IsStream, O
 use Rattle.libos_state.proofs.Keeping.{object_kept, none_set, none_without}
 
 -- A start goes on where no thread is ready or current.
-pub start_goes_on : (os : LibOs) (o o' : Objects) (c : Cont) (stage : Stage) (bytes handles numbers : List ℕ) → FitsStart os o c → o'.ready ≡ [] → o'.current ≡ None →
+pub start_goes_on : (os : LibOs) (o o' : Objects) (c : Cont) (stage : Stage) (bytes handles numbers : List ℕ) → FitsStart os o c → o'.lists.ready ≡ [] → o'.lists.current ≡ None →
     FitsStart (goes_on os (starting c stage bytes handles numbers)) o' (starting c stage bytes handles numbers)
 start_goes_on os o o' c stage bytes handles numbers start ready current = record {
   program = start.program;
@@ -37,9 +37,9 @@ start_goes_on os o o' c stage bytes handles numbers start ready current = record
 
 -- There is no process and no thread, and no list names one.
 pub record IsUnbegun (o : Objects) : Type 0 where
-  pub ready : o.ready ≡ []
-  pub suspended : o.suspended ≡ []
-  pub current : o.current ≡ None
+  pub ready : o.lists.ready ≡ []
+  pub suspended : o.lists.suspended ≡ []
+  pub current : o.lists.current ≡ None
   pub no_process : NoneLive is_process o.live
   pub no_thread : NoneLive is_thread o.live
 

@@ -70,7 +70,7 @@ module _ (os : LibOs) (w : World) (fits : FitsIdle os w.objects) (sound : IsSoun
   place = pick_of w.objects
 
   first : place ≡ 0
-  first = pick_first _ thread.handle w.objects.ready fits.ready
+  first = pick_first _ thread.handle w.objects.lists.ready fits.ready
 
   runs : Running (object_at w.objects process.handle)
   runs = running_of (object_at w.objects process.handle) fits.records.memory
@@ -85,7 +85,7 @@ module _ (os : LibOs) (w : World) (fits : FitsIdle os w.objects) (sound : IsSoun
   turned_is : turned w.objects ≡ trapped after thread.handle process.handle run.context run.trap
   turned_is =
       ap (λ a. turned_at a (pick_of a) (slice_get a.ready (pick_of a))) (awoken_none w.objects sound.waiting)
-      ∙ ap (turned_at w.objects place) (first_there thread.handle place w.objects.ready fits.ready first)
+      ∙ ap (turned_at w.objects place) (first_there thread.handle place w.objects.lists.ready fits.ready first)
       ∙ ap (host.run_thread (picked w.objects place) thread.handle) fits.records.object
       ∙ ap (run_in (picked w.objects place) thread.handle process.handle fits.records.context) runs.runs
 
@@ -106,7 +106,7 @@ module _ (os : LibOs) (w : World) (fits : FitsIdle os w.objects) (sound : IsSoun
       ∙ get_other w.objects.live process.handle (Process run.space None) h (closable_apart_process os w.objects.live process thread fits.records h closable)
 
   after_ready : after.ready ≡ []
-  after_ready = first_left thread.handle place w.objects.ready fits.ready first
+  after_ready = first_left thread.handle place w.objects.lists.ready fits.ready first
 
   after_records : FitsRecords os after.live process thread
   after_records = records_over os os.cont w.objects.live after.live process thread run.context fits.records (ap (λ x. is_some (running x)) after_process) after_thread after_closable

@@ -14,8 +14,8 @@ use Rattle.abi_calls.specs.declared.reply.Reply.TheVariants.{Bytes, TooBig}
 use Rattle.abi_calls.specs.declared.threads.Upcall.{Upcall}
 use Rattle.abi_calls.specs.Objects.{Objects, object_at, running}
 use Rattle.abi_calls.specs.World.{World, Answer}
-use Rattle.abi_calls.specs.Memory.{memory_read, unless_fault}
-use Rattle.abi_calls.specs.Streams.{stream_of, stream_written, written_to}
+use Rattle.abi_calls.specs.Memory.{memory_read_row, unless_fault}
+use Rattle.abi_calls.specs.Streams.{stream_of, stream_write_row, written_to}
 use Rattle.abi_calls.specs.Abi.{Abi}
 use Rattle.abi_calls.specs.Sound.{IsSound}
 use Rattle.mono_model.specs.Machine as mono
@@ -99,9 +99,9 @@ module _ (os : LibOs) (c : Cont) (w : World) (fits : FitsWrite os w.objects c) w
   abbrev read_answer : Option AccessFault → Answer
   read_answer fault = unless_fault w fault (Bytes read_bytes, w)
 
-  row_read : memory_read w (argument c 1) (moved (argument c 2)) (running (object_at w.objects trap.process)) ≡ read_answer read_fault
+  row_read : memory_read_row w (argument c 1) (moved (argument c 2)) (running (object_at w.objects trap.process)) ≡ read_answer read_fault
   row_read =
-      ap (memory_read w (argument c 1) (moved (argument c 2))) (ap (λ h. running (object_at w.objects h)) (trap_process os w.objects c fits.served) ∙ runs_there.runs)
+      ap (memory_read_row w (argument c 1) (moved (argument c 2))) (ap (λ h. running (object_at w.objects h)) (trap_process os w.objects c fits.served) ∙ runs_there.runs)
       ∙ cond-false (nat_lt 65536 (moved (argument c 2))) (TooBig, w) (read_answer read_fault) (le-ltb 65536 (moved (argument c 2)) (moved_within (argument c 2)))
 
   served_is : served (base os w) (caller_in os c) trap.cause ≡ write_unless (base os w) (caller_in os c) (stream_of_kind fits.description.kind) read_bytes read_fault
@@ -183,8 +183,8 @@ module _ (os : LibOs) (c : Cont) (w : World) (fits : FitsWriteBytes os w.objects
   few_bytes : length c.bytes ≤ 65536
   few_bytes = let is = fits.count in let within = moved_within (register fits.writes.served.upcall.context 12) in omega arith
 
-  row_written : stream_written w (number c 0) c.bytes (stream_of (object_at w.objects (wanted_stream os c))) ≡ written_to w (number c 0) c.bytes (stream_of_kind kind)
-  row_written = ap (stream_written w (number c 0) c.bytes) (stream_there os c w.objects fits)
+  row_written : stream_write_row w (number c 0) c.bytes (stream_of (object_at w.objects (wanted_stream os c))) ≡ written_to w (number c 0) c.bytes (stream_of_kind kind)
+  row_written = ap (stream_write_row w (number c 0) c.bytes) (stream_there os c w.objects fits)
       ∙ cond-false (nat_lt 65536 (length c.bytes)) (TooBig, w) (written_to w (number c 0) c.bytes (stream_of_kind kind)) (le-ltb 65536 (length c.bytes) few_bytes)
 
   stream_is : (k : Kind) → kind ≡ k → stream_in os c ≡ stream_of_kind k

@@ -8,8 +8,8 @@ use Rattle.std.specs.declared.option.Option.{Option}
 use Rattle.std.specs.declared.option.Option.TheVariants.{None, Some}
 use Rattle.rv_core.specs.declared.context.Context.{Context}
 use Rattle.guest_space.specs.Space.{Space, Frame, in_run}
-use Rattle.abi_calls.specs.declared.call.StreamName.{StreamName}
-use Rattle.abi_calls.specs.declared.call.StreamName.TheVariants as stream
+use Rattle.bas_names.specs.declared.StreamName.{StreamName}
+use Rattle.bas_names.specs.declared.StreamName.TheVariants as stream
 use Rattle.abi_calls.specs.declared.object.Object.TheVariants.{Process, Thread, Event, Stream}
 use Rattle.abi_calls.specs.declared.threads.Upcall.{Upcall}
 use Rattle.abi_calls.specs.Objects.{Object, Objects, Live, object_at, running, contains, is_process, is_thread}
@@ -67,9 +67,9 @@ pub record FitsIdle (os : LibOs) (o : Objects) : Type 0 where
   pub process : ProcessNote
   pub thread : ThreadNote
   pub records : FitsRecords os o.live process thread
-  pub ready : o.ready ≡ thread.handle ∷ []
-  pub suspended : o.suspended ≡ []
-  pub current : o.current ≡ None
+  pub ready : o.lists.ready ≡ thread.handle ∷ []
+  pub suspended : o.lists.suspended ≡ []
+  pub current : o.lists.current ≡ None
 
 -- The process has exited, and so has its object.
 pub record FitsOver (os : LibOs) (o : Objects) (code : ℕ) : Type 0 where
@@ -80,9 +80,9 @@ pub record FitsOver (os : LibOs) (o : Objects) (code : ℕ) : Type 0 where
   pub object : object_at o process.handle ≡ Some (Process empty (Some code))
   pub threads : os.threads ≡ []
   pub descriptions : os.descriptions ≡ []
-  pub ready : o.ready ≡ []
-  pub suspended : o.suspended ≡ []
-  pub current : o.current ≡ None
+  pub ready : o.lists.ready ≡ []
+  pub suspended : o.lists.suspended ≡ []
+  pub current : o.lists.current ≡ None
 
 -- A trap of the thread is served: the thread is current.
 pub record FitsServed (os : LibOs) (o : Objects) (c : Cont) : Type 0 where
@@ -94,9 +94,9 @@ pub record FitsServed (os : LibOs) (o : Objects) (c : Cont) : Type 0 where
   pub records : FitsRecords os o.live process thread
   pub of_process : upcall.process ≡ process.handle
   pub of_thread : upcall.thread ≡ thread.handle
-  pub ready : o.ready ≡ []
-  pub suspended : o.suspended ≡ []
-  pub current : o.current ≡ Some thread.handle
+  pub ready : o.lists.ready ≡ []
+  pub suspended : o.lists.suspended ≡ []
+  pub current : o.lists.current ≡ Some thread.handle
 
 -- Bytes are written to a descriptor that is open for writing.
 pub record FitsWrite (os : LibOs) (o : Objects) (c : Cont) : Type 0 where
@@ -131,9 +131,9 @@ pub record FitsEnding (os : LibOs) (o : Objects) (c : Cont) : Type 0 where
   pub memory : is_some (running (get {R = nat_cmp} o.live upcall.process)) ≡ true
   pub context : Context
   pub object : get {R = nat_cmp} o.live upcall.thread ≡ Some (Thread upcall.process context)
-  pub ready : o.ready ≡ []
-  pub suspended : o.suspended ≡ []
-  pub current : o.current ≡ Some upcall.thread
+  pub ready : o.lists.ready ≡ []
+  pub suspended : o.lists.suspended ≡ []
+  pub current : o.lists.current ≡ Some upcall.thread
 
 pub record FitsClosing (os : LibOs) (o : Objects) (c : Cont) : Type 0 where
   pub ending : FitsEnding os o c
@@ -157,8 +157,8 @@ pub record FitsStart (os : LibOs) (o : Objects) (c : Cont) : Type 0 where
   pub processes : os.processes ≡ []
   pub threads : os.threads ≡ []
   pub descriptions : os.descriptions ≡ []
-  pub ready : o.ready ≡ []
-  pub current : o.current ≡ None
+  pub ready : o.lists.ready ≡ []
+  pub current : o.lists.current ≡ None
   pub names : FitsNames c
 
 abbrev pub passes : (Object → Bool) → Option Object → Bool
@@ -181,7 +181,7 @@ Opened live (a ∷ b ∷ c ∷ rest) = IsStream live stream.ConIn a × IsStream 
 
 pub record FitsConfigure (os : LibOs) (o : Objects) (c : Cont) : Type 0 where
   pub start : FitsStart os o c
-  pub suspended : o.suspended ≡ []
+  pub suspended : o.lists.suspended ≡ []
   pub settings : is_acceptable os.settings ≡ true
   pub unturned : o.positions.turns ≡ 0
   pub no_process : NoneLive is_process o.live
@@ -190,7 +190,7 @@ pub record FitsConfigure (os : LibOs) (o : Objects) (c : Cont) : Type 0 where
 -- No process and no thread was made yet, and so many handles are kept, the console's in front.
 pub record FitsOpening (os : LibOs) (o : Objects) (c : Cont) (kept : ℕ) : Type 0 where
   pub start : FitsStart os o c
-  pub suspended : o.suspended ≡ []
+  pub suspended : o.lists.suspended ≡ []
   pub no_process : NoneLive is_process o.live
   pub no_thread : NoneLive is_thread o.live
   pub count : length c.handles ≡ kept
@@ -225,7 +225,7 @@ pub record HasPages (s : Space) (count rights stack : ℕ) : Type 0 where
 -- The process is made, and no thread.
 pub record FitsChild (os : LibOs) (o : Objects) (c : Cont) : Type 0 where
   pub start : FitsStart os o c
-  pub suspended : o.suspended ≡ []
+  pub suspended : o.lists.suspended ≡ []
   pub no_thread : NoneLive is_thread o.live
   pub count : length c.handles ≡ 4
   pub opened : Opened o.live c.handles
@@ -257,7 +257,7 @@ pub record FitsThread (os : LibOs) (o : Objects) (c : Cont) (kept : ℕ) : Type 
   pub child : object_at o (file_or_child c) ≡ Some (Process memory None)
   pub context : Context
   pub thread : object_at o (handle c 4) ≡ Some (Thread (file_or_child c) context)
-  pub suspended : o.suspended ≡ handle c 4 ∷ []
+  pub suspended : o.lists.suspended ≡ handle c 4 ∷ []
 
 pub record FitsEvent (os : LibOs) (o : Objects) (c : Cont) : Type 0 where
   pub thread : FitsThread os o c 6
@@ -301,8 +301,8 @@ FitsUp os o (Some code) = FitsOver os o code
 
 abbrev pub FitsBoot : LibOs → Objects → Boot → Type 0
 FitsBoot os o boot.Up = FitsUp os o (exit_code os)
-FitsBoot os o boot.NoProgram = o.current ≡ None
-FitsBoot os o (boot.BadProgram cause) = o.current ≡ None
+FitsBoot os o boot.NoProgram = o.lists.current ≡ None
+FitsBoot os o (boot.BadProgram cause) = o.lists.current ≡ None
 FitsBoot os o boot.Going = ⊥
 
 abbrev pub FitsCont : LibOs → Objects → Option Cont → Type 0

@@ -7,8 +7,8 @@ use Rattle.std.specs.declared.option.Option.{Option}
 use Rattle.std.specs.declared.option.Option.TheVariants.{None, Some}
 use Rattle.rv_core.specs.declared.context.Context.{Context}
 use Rattle.guest_space.specs.Space.{Space}
-use Rattle.abi_calls.specs.declared.call.StreamName as stream
-use Rattle.abi_calls.specs.declared.call.StreamName.{StreamName}
+use Rattle.bas_names.specs.declared.StreamName as stream
+use Rattle.bas_names.specs.declared.StreamName.{StreamName}
 use Rattle.abi_calls.specs.declared.object.Object.TheVariants.{Process, Thread, Event, Stream}
 use Rattle.abi_calls.specs.Objects.{Object, Live, running}
 use Rattle.abi_calls.specs.World.{World}
@@ -108,7 +108,7 @@ base os w = record {
   processes = processes_of os.processes w.objects.live;
   threads = threads_of os.threads w.objects.live;
   descriptions = descriptions_of os.descriptions;
-  ready = tids_of os.threads w.objects.ready;
+  ready = tids_of os.threads w.objects.lists.ready;
   files = w.contents.files;
   input = w.contents.input;
   output = w.contents.output;

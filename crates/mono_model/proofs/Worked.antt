@@ -1,7 +1,7 @@
 -- The definitions computed on worked examples.
 use Rattle.std.proofs.Common.{◌≡◌, ℕ, true, false, List, [], ◌∷◌, refl, take, replicate, ◌++◌}
 use Rattle.std.specs.declared.option.Option.TheVariants.{None, Some}
-use Rattle.abi_calls.specs.declared.call.StreamName.TheVariants.{ConOut, ConIn}
+use Rattle.bas_names.specs.declared.StreamName.TheVariants.{ConOut, ConIn}
 use Rattle.mono_model.specs.Machine.{returned, register}
 use Rattle.mono_model.specs.Program.{is_plain, headers, page_count}
 use Rattle.mono_model.specs.Calls.{error, EBADF, writable, moved, fault_code}

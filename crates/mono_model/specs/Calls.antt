@@ -8,8 +8,8 @@ use Rattle.std.specs.declared.option.Option.TheVariants.{None, Some}
 use Rattle.rv_core.specs.declared.context.Context.{Context}
 use Rattle.guest_space.specs.Space.{Space, memory_of, bytes_from}
 use Rattle.guest_space.specs.Access.{AccessFault, first_fault}
-use Rattle.abi_calls.specs.declared.call.StreamName.{StreamName}
-use Rattle.abi_calls.specs.declared.call.StreamName.TheVariants.{File, ConIn, ConOut, ConErr}
+use Rattle.bas_names.specs.declared.StreamName.{StreamName}
+use Rattle.bas_names.specs.declared.StreamName.TheVariants.{File, ConIn, ConOut, ConErr}
 use Rattle.mono_model.specs.Machine.{Mono, Process, Description, exited, returned, register, resumed, process_at}
 
 -- The system calls that there are so far.

@@ -7,7 +7,7 @@ use Rattle.std.specs.declared.option.Option.TheVariants.{None, Some}
 use Rattle.rv_core.specs.declared.context.Context.{Context}
 use Rattle.guest_space.specs.Space.{Space}
 use Rattle.bas_edge.specs.Files.{Files}
-use Rattle.abi_calls.specs.declared.call.StreamName.{StreamName}
+use Rattle.bas_names.specs.declared.StreamName.{StreamName}
 use Rattle.abi_calls.specs.declared.settings.Positions.{Positions}
 use Rattle.abi_calls.specs.declared.settings.Settings.{Settings}
 

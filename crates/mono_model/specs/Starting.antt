@@ -10,7 +10,7 @@ use Rattle.rv_core.specs.declared.context.Context.{Context}
 use Rattle.guest_space.specs.Space.{Space, memory_of, with_run, protected, with_memory}
 use Rattle.guest_space.specs.Access.{with_bytes}
 use Rattle.bas_edge.specs.Files.{file_of}
-use Rattle.abi_calls.specs.declared.call.StreamName.TheVariants.{ConIn, ConOut, ConErr}
+use Rattle.bas_names.specs.declared.StreamName.TheVariants.{ConIn, ConOut, ConErr}
 use Rattle.abi_calls.specs.declared.settings.Positions.{Positions}
 use Rattle.abi_calls.specs.declared.settings.Settings.{Settings}
 use Rattle.abi_calls.specs.World.{Contents}

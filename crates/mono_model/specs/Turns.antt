@@ -5,7 +5,7 @@ use Rattle.std.specs.declared.option.Option.TheVariants.{None, Some}
 use Rattle.rv_core.specs.declared.context.Context.{Context}
 use Rattle.guest_space.specs.Space.{Space}
 use Rattle.guest_space.specs.Running.{Ran, run_space}
-use Rattle.abi_calls.specs.Objects.{risen}
+use Rattle.abi_calls.specs.Objects.{next_position}
 use Rattle.mono_model.specs.Machine.{Mono, Process, Thread, process_at, thread_at, with_process, with_thread, made_ready, exit_code}
 use Rattle.mono_model.specs.Calls.{memory_at, served}
 
@@ -16,7 +16,7 @@ pick_of m = slice_index m.settings.picks m.positions.pick % length m.ready
 abbrev pub picked : Mono → ℕ → Mono
 picked m place = record m {
   ready = remove_at m.ready place;
-  positions = record m.positions { turns = risen m.positions.turns; pick = risen m.positions.pick };
+  positions = record m.positions { turns = next_position m.positions.turns; pick = next_position m.positions.pick };
 }
 
 abbrev pub with_memory_in : Mono → ℕ → Space → Option Process → Mono

@@ -1,4 +1,4 @@
--- Stores and instructions keep which bytes are there, and with which rights.
+-- What stores keep, instructions keep: which bytes are there, and with which rights.
 use Rattle.std.proofs.Common.{◌≡◌, ℕ, zero, suc, ◌+◌, ◌/◌, ◌%◌, ◌^◌, ◌==◌, Bool, true, false, cond, refl, ◌∙◌, Option, Some, None}
 use Rattle.std.specs.Option.{option_map}
 use Rattle.std.specs.Int.{cast_unsigned, w64}
@@ -50,48 +50,53 @@ SameRights-stored m at size value =
       | false ↦ SameRights-refl m
     ]
 
--- an outcome that goes on keeps the rights of a memory
-abbrev KeepsRights : Memory → Outcome → Type 0
-KeepsRights m (Goes cx m') = SameRights m m'
-KeepsRights m (Faults cause value) = Unit {0}
+-- ---- what each store keeps of a memory, a run keeps
+module _ (Kept : Memory → Type 0) (kept_stored : (m : Memory) (at size value : ℕ) → Kept m → Kept (stored m at size value)) where
+  abbrev Leaves : Outcome → Type 0
+  Leaves (Goes cx m) = Kept m
+  Leaves (Faults cause value) = Unit {0}
 
-keeps_if : (m : Memory) (b : Bool) (x y : Outcome) → KeepsRights m x → KeepsRights m y → KeepsRights m (cond b x y)
-keeps_if m true x y h g = h
-keeps_if m false x y h g = g
+  leaves_if : (b : Bool) (x y : Outcome) → Leaves x → Leaves y → Leaves (cond b x y)
+  leaves_if true x y h g = h
+  leaves_if false x y h g = g
 
-keeps_jump : (cx : Context) (m : Memory) (rd to : ℕ) → KeepsRights m (jumps cx m rd to)
-keeps_jump cx m rd to = keeps_if m (to % 4 == 0) _ _ (SameRights-refl m) tt
+  leaves_jump : (cx : Context) (m : Memory) (rd to : ℕ) → Kept m → Leaves (jumps cx m rd to)
+  leaves_jump cx m rd to kept = leaves_if (to % 4 == 0) _ _ kept tt
 
-keeps_load : (cx : Context) (m : Memory) (rd from size : ℕ) (sign : Bool) (o : Option ℕ) → KeepsRights m (loads cx m rd from size sign o)
-keeps_load cx m rd from size sign None = tt
-keeps_load cx m rd from size sign (Some value) = SameRights-refl m
+  leaves_load : (cx : Context) (m : Memory) (rd from size : ℕ) (sign : Bool) (o : Option ℕ) → Kept m → Leaves (loads cx m rd from size sign o)
+  leaves_load cx m rd from size sign None kept = tt
+  leaves_load cx m rd from size sign (Some value) kept = kept
 
-keeps_outcome : (cx : Context) (m : Memory) (rd : ℕ) (effect : Effect) → KeepsRights m (outcome cx m rd effect)
-keeps_outcome cx m rd (Sets value) = SameRights-refl m
-keeps_outcome cx m rd (Jumps to) = keeps_jump cx m rd to
-keeps_outcome cx m rd (Branches true to) = keeps_jump cx m 0 to
-keeps_outcome cx m rd (Branches false to) = SameRights-refl m
-keeps_outcome cx m rd (Loads from size sign) = keeps_load cx m rd from size sign (loaded m from size)
-keeps_outcome cx m rd (Stores to size value) = keeps_if m (storable m to size) _ _ (SameRights-stored m to size value) tt
-keeps_outcome cx m rd Nothing = SameRights-refl m
-keeps_outcome cx m rd (Traps cause value) = tt
+  leaves_outcome : (cx : Context) (m : Memory) (rd : ℕ) (effect : Effect) → Kept m → Leaves (outcome cx m rd effect)
+  leaves_outcome cx m rd (Sets value) kept = kept
+  leaves_outcome cx m rd (Jumps to) kept = leaves_jump cx m rd to kept
+  leaves_outcome cx m rd (Branches true to) kept = leaves_jump cx m 0 to kept
+  leaves_outcome cx m rd (Branches false to) kept = kept
+  leaves_outcome cx m rd (Loads from size sign) kept = leaves_load cx m rd from size sign (loaded m from size) kept
+  leaves_outcome cx m rd (Stores to size value) kept = leaves_if (storable m to size) _ _ (kept_stored m to size value kept) tt
+  leaves_outcome cx m rd Nothing kept = kept
+  leaves_outcome cx m rd (Traps cause value) kept = tt
 
-keeps_word : (cx : Context) (m : Memory) (w : ℕ) (o : Option Instr) → KeepsRights m (executed_word cx m w o)
-keeps_word cx m w None = tt
-keeps_word cx m w (Some i) = keeps_outcome cx m i.rd (row i.op cx.pc (cast_unsigned w64 i.imm) (register cx i.rs1) (register cx i.rs2))
+  leaves_word : (cx : Context) (m : Memory) (w : ℕ) (o : Option Instr) → Kept m → Leaves (executed_word cx m w o)
+  leaves_word cx m w None kept = tt
+  leaves_word cx m w (Some i) kept = leaves_outcome cx m i.rd (row i.op cx.pc (cast_unsigned w64 i.imm) (register cx i.rs1) (register cx i.rs2)) kept
 
-keeps_at : (cx : Context) (m : Memory) (o : Option ℕ) → KeepsRights m (executed_at cx m o)
-keeps_at cx m None = tt
-keeps_at cx m (Some w) = keeps_word cx m w (decoded w)
+  leaves_at : (cx : Context) (m : Memory) (o : Option ℕ) → Kept m → Leaves (executed_at cx m o)
+  leaves_at cx m None kept = tt
+  leaves_at cx m (Some w) kept = leaves_word cx m w (decoded w) kept
 
-keeps_instruction : (cx : Context) (m : Memory) → KeepsRights m (instruction cx m)
-keeps_instruction cx m = keeps_if m (cx.pc % 4 == 0) _ _ (keeps_at cx m (fetched m cx.pc)) tt
+  leaves_instruction : (cx : Context) (m : Memory) → Kept m → Leaves (instruction cx m)
+  leaves_instruction cx m kept = leaves_if (cx.pc % 4 == 0) _ _ (leaves_at cx m (fetched m cx.pc) kept) tt
 
-keeps_going : (rest : Context → Memory → Reached) → ((cx : Context) (m : Memory) → SameRights m (rest cx m).memory) → (cx : Context) (m : Memory) (o : Outcome) → KeepsRights m o → SameRights m (go_on rest cx m o).memory
-keeps_going rest all cx m (Goes cx' m') kept = SameRights-trans m m' (rest cx' m').memory kept (all cx' m')
-keeps_going rest all cx m (Faults cause value) kept = SameRights-refl m
+  leaves_going : (rest : Context → Memory → Reached) → ((cx : Context) (m : Memory) → Kept m → Kept (rest cx m).memory) → (cx : Context) (m : Memory) (o : Outcome) → Kept m → Leaves o → Kept (go_on rest cx m o).memory
+  leaves_going rest all cx m (Goes cx' m') kept left = all cx' m' left
+  leaves_going rest all cx m (Faults cause value) kept left = kept
+
+  pub kept_instructions : (n : ℕ) (cx : Context) (m : Memory) → Kept m → Kept (instructions n cx m).memory
+  unfolding instructions
+  kept_instructions zero cx m kept = kept
+  kept_instructions (suc n) cx m kept = leaves_going (instructions n) (kept_instructions n) cx m (instruction cx m) kept (leaves_instruction cx m kept)
 
 pub SameRights-instructions : (n : ℕ) (cx : Context) (m : Memory) → SameRights m (instructions n cx m).memory
-unfolding instructions
-SameRights-instructions zero cx m = SameRights-refl m
-SameRights-instructions (suc n) cx m = keeps_going (instructions n) (SameRights-instructions n) cx m (instruction cx m) (keeps_instruction cx m)
+SameRights-instructions n cx m =
+    kept_instructions (SameRights m) (λ m' at size value kept. SameRights-trans m m' _ kept (SameRights-stored m' at size value)) n cx m (SameRights-refl m)

@@ -8,8 +8,8 @@ use Rattle.guest_space.specs.Space.{Space, memory_of, bytes_from}
 use Rattle.guest_space.specs.Access.{AccessFault, first_fault}
 use Rattle.guest_space.specs.Running.{Ran, run_space}
 use Rattle.bas_edge.specs.Files.{file_of}
-use Rattle.abi_calls.specs.declared.call.StreamName.{StreamName}
-use Rattle.abi_calls.specs.declared.call.StreamName.TheVariants.{File, ConIn, ConOut, ConErr}
+use Rattle.bas_names.specs.declared.StreamName.{StreamName}
+use Rattle.bas_names.specs.declared.StreamName.TheVariants.{File, ConIn, ConOut, ConErr}
 use Rattle.abi_calls.specs.Objects.{Objects}
 use Rattle.abi_calls.specs.World.{Contents, World}
 use Rattle.abi_calls.specs.Abi.{for_output, for_errors}
@@ -27,7 +27,7 @@ use Rattle.libos_state.specs.declared.state.LibOs.{LibOs}
 use Rattle.libos_state.specs.Records.{base}
 use Rattle.libos_state.specs.Pending.{upcall_in, arguments, number, no_positions}
 use Rattle.libos_state.specs.Meaning.{meaning, meant, meant_at, meant_idle, caller_in, stream_in, unstarted, job_in, program_file}
-use Rattle.turn_engine.specs.WhereTold.{world}
+use Rattle.abi_calls.specs.World.{world}
 use Rattle.turn_engine.specs.Halts.{IsFront, FrontsMachine, IsUnwritten, Fronts}
 
 -- ---- fronts of texts

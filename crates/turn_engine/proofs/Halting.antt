@@ -6,8 +6,8 @@ use Rattle.std.specs.declared.option.Option.TheVariants.{None, Some}
 use Rattle.bas_edge.specs.Files.{Files}
 use Rattle.abi_calls.specs.declared.call.Call.{Call}
 use Rattle.abi_calls.specs.declared.call.Call.TheVariants.{StreamRead, StreamWrite}
-use Rattle.abi_calls.specs.declared.call.StreamName.{StreamName}
-use Rattle.abi_calls.specs.declared.call.StreamName.TheVariants.{File, ConIn, ConOut, ConErr}
+use Rattle.bas_names.specs.declared.StreamName.{StreamName}
+use Rattle.bas_names.specs.declared.StreamName.TheVariants.{File, ConIn, ConOut, ConErr}
 use Rattle.abi_calls.specs.declared.reply.Reply.{Reply}
 use Rattle.abi_calls.specs.declared.threads.Turned.TheVariants.{Exception}
 use Rattle.abi_calls.specs.declared.threads.Upcall.{Upcall}
@@ -33,7 +33,7 @@ use Rattle.libos_state.specs.Fits.{Fits, FitsCont, FitsStage, FitsWriteBytes, Fi
 use Rattle.libos_state.specs.Laws.{EntersTurn}
 use Rattle.libos_state.proofs.Writing.{stream_there}
 use Rattle.libos_state.proofs.Stages.{answered_keeps}
-use Rattle.turn_engine.specs.WhereTold.{WhereTold, world, whole, whole_of}
+use Rattle.abi_calls.specs.World.{WhereTold, world, whole, whole_of}
 use Rattle.turn_engine.specs.Serves.{Serves, IsUp, MakesTurn}
 use Rattle.turn_engine.specs.Halts.{IsFront, FrontsMachine, IsUnwritten, Fronts, Halts, HaltsTurn, HaltsRun, FrontsRun, MakesTurns, after_turns, ServesNoTrap, StartsQuietly}
 use Rattle.turn_engine.proofs.Telling.{told_same, told_then}

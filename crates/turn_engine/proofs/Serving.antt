@@ -14,7 +14,7 @@ use Rattle.libos_state.specs.Pending.{pending}
 use Rattle.libos_state.specs.Meaning.{meaning}
 use Rattle.libos_state.specs.Fits.{Fits}
 use Rattle.libos_state.specs.Laws.{KeepsMeaning}
-use Rattle.turn_engine.specs.WhereTold.{WhereTold, world, whole}
+use Rattle.abi_calls.specs.World.{WhereTold, world, whole}
 use Rattle.turn_engine.specs.Serves.{Serves}
 use Rattle.turn_engine.proofs.Telling.{whole_tells, whole_stays, told_same, told_then}
 

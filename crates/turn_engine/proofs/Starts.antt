@@ -18,7 +18,7 @@ use Rattle.libos_state.specs.declared.state.LibOs.{LibOs}
 use Rattle.libos_state.specs.Pending.{pending, asked, asked_by, number}
 use Rattle.libos_state.specs.Answered.{answered, answered_in, next, goes_on, starting, loads}
 use Rattle.libos_state.specs.Fits.{Fits, FitsCont, FitsStage}
-use Rattle.turn_engine.specs.WhereTold.{WhereTold}
+use Rattle.abi_calls.specs.World.{WhereTold}
 use Rattle.turn_engine.specs.Halts.{ServesNoTrap, StartsQuietly}
 use Rattle.turn_engine.proofs.Telling.{told_same, told_then}
 use Rattle.turn_engine.proofs.Quiet.{IsQuiet, told_quiet}

@@ -8,7 +8,7 @@ use Rattle.abi_calls.specs.declared.reply.Reply.{Reply}
 use Rattle.abi_calls.specs.declared.threads.Turned.{Turned}
 use Rattle.abi_calls.specs.declared.threads.Turned.TheVariants.{Ran, Idle, Stuck, Exception}
 use Rattle.abi_calls.specs.declared.threads.Upcall.{Upcall}
-use Rattle.abi_calls.specs.Objects.{Objects, risen}
+use Rattle.abi_calls.specs.Objects.{Objects, next_position}
 use Rattle.abi_calls.specs.World.{World, Contents, Told}
 use Rattle.abi_calls.specs.Abi.{Answers}
 use Rattle.abi_calls.specs.Sound.{IsSound}
@@ -33,7 +33,7 @@ use Rattle.libos_state.specs.Fits.{Fits, FitsCont, FitsBoot, FitsUp, FitsIdle, e
 use Rattle.libos_state.specs.Laws.{KeepsMeaning, EntersTurn}
 use Rattle.libos_state.proofs.Turning.{turn_ran}
 use Rattle.libos_state.proofs.Idle.{exit_code_is}
-use Rattle.turn_engine.specs.WhereTold.{WhereTold, world, whole}
+use Rattle.abi_calls.specs.World.{WhereTold, world, whole}
 use Rattle.turn_engine.specs.Serves.{Serves, IsUp, MakesTurn}
 use Rattle.turn_engine.proofs.Telling.{told_same, told_then}
 use Rattle.turn_engine.proofs.Serving.{answer_means, answer_fits}

@@ -4,7 +4,7 @@ use Rattle.std.specs.declared.option.Option.{Option}
 use Rattle.std.specs.declared.option.Option.TheVariants.{None, Some}
 use Rattle.bas_edge.specs.Files.{Files}
 use Rattle.abi_calls.specs.World.{Contents, Told, Tells, StaysTold}
-use Rattle.turn_engine.specs.WhereTold.{whole, whole_of, WhereTold}
+use Rattle.abi_calls.specs.World.{whole, whole_of, WhereTold}
 
 -- contents that are as told are those that are told
 pub whole_tells : (files : Option Files) (input output errors : Option (List ℕ)) (x c : Contents)

@@ -9,9 +9,9 @@ use Rattle.abi_calls.specs.declared.settings.Settings.{Settings}
 use Rattle.abi_calls.specs.Objects.{Objects, number_of}
 use Rattle.abi_calls.specs.World.{World, Told, Answer}
 use Rattle.abi_calls.specs.Abi.{Abi, Answers, answer}
-use Rattle.abi_calls.specs.Processes.{configured, is_acceptable, is_running}
+use Rattle.abi_calls.specs.Processes.{configure_row, is_acceptable, is_running}
 use Rattle.abi_calls.proofs.Effects.{is_configure}
-use Rattle.abi_calls.proofs.PositionsKept.{KeepsPositions, positions_answered}
+use Rattle.abi_calls.proofs.PositionsKept.{KeepsPositions, KeepsPositions-Answers}
 use Rattle.libos_state.specs.declared.cont.Cont.{Cont}
 use Rattle.libos_state.specs.declared.cont.Stage.{Stage}
 use Rattle.libos_state.specs.declared.cont.Stage.TheVariants.{SetContext, Resume, CloseHandles, ExitProcess, ReadMemory, WriteStream, Configure, OpenConsole, OpenProgram, ProgramLength, ReadProgram, CloseProgram, CreateProcess, AllocateRun, WriteRun, ProtectRun, AllocateStack, WriteBlock, CreateThread, CreateEvent, StartThread}
@@ -26,7 +26,7 @@ either : (b : Bool) (x y : Answer) (n : ℕ) → turns_in x ≡ n → turns_in y
 either true x y n p q = p
 either false x y n p q = q
 
-turns_configured : (w : World) (s : Settings) → w.objects.positions.turns ≡ 0 → turns_in (configured w s no_positions) ≡ w.objects.positions.turns
+turns_configured : (w : World) (s : Settings) → w.objects.positions.turns ≡ 0 → turns_in (configure_row w s no_positions) ≡ w.objects.positions.turns
 turns_configured w s none =
     let changed : World = record w { objects = record w.objects { settings = s; positions = no_positions } } in
     let taken : Answer = if not (w.objects.positions.turns == 0) || nat_lt 0 (number_of is_running w.objects.live) then (Busy, w) else (Done, changed) in
@@ -34,7 +34,7 @@ turns_configured w s none =
     (either (not (w.objects.positions.turns == 0) || nat_lt 0 (number_of is_running w.objects.live)) (Busy, w) (Done, changed) w.objects.positions.turns refl (sym none))
 
 turns_kept : (o o' : Objects) (t t' : Told) (call : Call) (r : Reply) → is_configure call ≡ false → Answers o t call r o' t' → o'.positions.turns ≡ o.positions.turns
-turns_kept o o' t t' call r not a = ap (λ p. p.turns) (positions_answered o o' t t' call r not a).positions
+turns_kept o o' t t' call r not a = ap (λ p. p.turns) (KeepsPositions-Answers o o' t t' call r not a).positions
 
 turns_at : (os : LibOs) (c : Cont) (stage : Stage) (o o' : Objects) (t t' : Told) (r : Reply) → FitsStage os o c stage → Answers o t (asked os c stage) r o' t' → o'.positions.turns ≡ o.positions.turns
 turns_at os c SetContext o o' t t' r fits a = turns_kept o o' t t' _ r refl a

@@ -10,7 +10,7 @@ use Rattle.libos_state.specs.declared.state.Boot.TheVariants.{Up}
 use Rattle.libos_state.specs.declared.state.LibOs.{LibOs}
 use Rattle.libos_state.specs.Records.{base}
 use Rattle.libos_state.specs.Meaning.{meaning}
-use Rattle.turn_engine.specs.WhereTold.{WhereTold, world}
+use Rattle.abi_calls.specs.World.{WhereTold, world}
 
 -- A text is a front of another.
 pub record IsFront (front whole : List ℕ) : Type 0 where

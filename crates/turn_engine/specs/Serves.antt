@@ -1,7 +1,7 @@
 -- What serving does: the library OS and the host stand for the same as before.
 use Rattle.std.specs.Prelude.{◌≡◌, ℕ}
 use Rattle.std.specs.declared.option.Option.TheVariants.{None, Some}
-use Rattle.abi_calls.specs.Objects.{Objects, risen}
+use Rattle.abi_calls.specs.Objects.{Objects, next_position}
 use Rattle.abi_calls.specs.World.{Told}
 use Rattle.mono_model.specs.Turns.{turn_of}
 use Rattle.libos_state.specs.declared.state.Boot.TheVariants.{Up}
@@ -9,7 +9,7 @@ use Rattle.libos_state.specs.declared.state.LibOs.{LibOs}
 use Rattle.libos_state.specs.Records.{base}
 use Rattle.libos_state.specs.Meaning.{meaning}
 use Rattle.libos_state.specs.Fits.{Fits, FitsUp, exit_code}
-use Rattle.turn_engine.specs.WhereTold.{WhereTold, world}
+use Rattle.abi_calls.specs.World.{WhereTold, world}
 
 -- From one moment to a later one of a service: the library OS fits, no turn was made, and, where contents are told, it
 -- stands for the same.
@@ -28,5 +28,5 @@ pub record IsUp (os : LibOs) (o : Objects) : Type 0 where
 -- One turn: where contents are told, the machine that the records name is the one that its turn makes.
 pub record MakesTurn (os : LibOs) (o : Objects) (told : Told) (os' : LibOs) (o' : Objects) (told' : Told) : Type 0 where
   pub up : IsUp os' o'
-  pub turns : o'.positions.turns ≡ risen o.positions.turns
+  pub turns : o'.positions.turns ≡ next_position o.positions.turns
   pub means : WhereTold told told' (λ x y. base os' (world o' y) ≡ turn_of (base os (world o x)))

@@ -61,7 +61,8 @@ with_suspended l t = record l { suspended = l.suspended ++ t ∷ [] }
 
 -- A thread rests no more.
 abbrev pub without_resting : {W : Type 0} → Lists W → ℕ → Lists W
-without_resting l t = record l { suspended = without l.suspended t; current = other_than t l.current }
+without_resting l t =
+    record l { suspended = without l.suspended t; current = other_than t l.current }
 
 -- A thread that rests joins the end of the ready list.
 abbrev pub with_resumed : {W : Type 0} → Lists W → ℕ → Lists W
@@ -106,7 +107,8 @@ is_waiting_with h w = w.thread == h || contains w.handles h
 -- A list mentions a number.
 abbrev pub mentions_number : Lists Waiting → ℕ → Bool
 mentions_number l h =
-    contains l.ready h || (list_any (is_waiting_with h) l.waiting || (contains l.suspended h || is_at h l.current))
+    contains l.ready h || (list_any (is_waiting_with h) l.waiting ||
+        (contains l.suspended h || is_at h l.current))
 
 -- How often a number stands in a list.
 abbrev pub times : ℕ → List ℕ → ℕ
@@ -123,11 +125,13 @@ waiting_threads l = map (λ w. w.thread) l.waiting
 -- How often a thread stands anywhere.
 abbrev pub standings : Lists Waiting → ℕ → ℕ
 standings l t =
-    times t l.ready + (times t (waiting_threads l) + (times t l.suspended + times t (option_list l.current)))
+    times t l.ready + (times t (waiting_threads l) +
+        (times t l.suspended + times t (option_list l.current)))
 
 -- The same lists where each number has another name.
 abbrev pub renamed_waiting : (ℕ → ℕ) → Waiting → Waiting
-renamed_waiting name w = record { thread = name w.thread; handles = map name w.handles; deadline = w.deadline }
+renamed_waiting name w =
+    record { thread = name w.thread; handles = map name w.handles; deadline = w.deadline }
 
 abbrev pub renamed_lists : (ℕ → ℕ) → Lists Waiting → Lists Waiting
 renamed_lists name l = record {
@@ -137,7 +141,8 @@ renamed_lists name l = record {
   current = option_map name l.current;
 }
 
--- What a scheduler keeps: the lists, by numbers alone, and how many more threads can be added without taking memory.
+-- What a scheduler keeps: the lists, by numbers alone, and how many more threads can be added
+-- without taking memory.
 pub record Scheduled : Type 0 where
   pub lists : Lists ℕ
   pub spare : ℕ

@@ -22,7 +22,7 @@ loop-turn-preserved g c =
     let below : c.loop-turn._turn < TURNS = c.loop-turn-test.true in
     let alive : is_some (exit_code c.loop-turn.machine.os) ≡ false = search rules in
     let one : TURNS - c.loop-turn._turn ≡ suc (TURNS - (c.loop-turn._turn + 1)) = omega arith in
-    let risen : g.H.Host.fault_count c.loop-turn.host ≤ g.H.Host.fault_count c.turn.new.host = c.in_ok-turn.ensures.cause.later in
+    let next_position : g.H.Host.fault_count c.loop-turn.host ≤ g.H.Host.fault_count c.turn.new.host = c.in_ok-turn.ensures.cause.later in
     let later : g.H.Host.fault_count c.args.host.now ≤ g.H.Host.fault_count c.loop-turn.host = c.loop-turn.invariant.later in
     record {
       goes = goes_turn c.loop-turn._turn (TURNS - (c.loop-turn._turn + 1)) c.args.machine.now.os c.loop-turn.machine.os c.turn.new.self.os

@@ -12,7 +12,7 @@ returns-in_err-step-clause-halts g c =
 
 pub loop-preserved : goal.loop-preserved
 loop-preserved g c =
-    let risen : g.H.Host.fault_count c.loop.host ≤ g.H.Host.fault_count c.step.new.host = c.in_ok-step.ensures.cause.later in
+    let next_position : g.H.Host.fault_count c.loop.host ≤ g.H.Host.fault_count c.step.new.host = c.in_ok-step.ensures.cause.later in
     let later : g.H.Host.fault_count c.args.host.now ≤ g.H.Host.fault_count c.loop.host = c.loop.invariant.later in
     record {
       serves = serves_then c.args.self.now.os (g.H.Host.objects c.args.host.now) (g.H.Host.told c.args.host.now) c.loop.self.os (g.H.Host.objects c.loop.host) (g.H.Host.told c.loop.host) c.step.new.self.os (g.H.Host.objects c.step.new.host) (g.H.Host.told c.step.new.host)
