@@ -1,9 +1,11 @@
 -- How many entries of a map from numbers pass a test.
-use Rattle.std.specs.Prelude.{◌≡◌, ℕ, ◌+◌, Bool, true, false, cond, ◌&&◌, T, List, [], ◌∷◌, map, length, count_by}
+use Rattle.std.specs.Prelude.{◌≡◌, ℕ, ◌+◌, ◌≤◌, Bool, true, false, cond, ◌&&◌, ◌||◌, T, List, [], ◌∷◌, map, filter, length, count_by}
+use Rattle.std.specs.List.{list_any}
 use Rattle.std.specs.Ordering.{nat_cmp, is_lt, is_eq, eq_by_cmp}
 use Rattle.std.specs.Cmp.{nat_cmp_total, unsigned_tied}
-use Rattle.std.specs.FinMap.{FinMap, get, insert, remove, empty, entries, entries_sorted, entries-insert, get-entries, len-entries, len-empty, values}
-use Rattle.std.specs.FinMap.Entries.{put, find, is_sorted, below_all, by_order, is_sorted-put}
+use Rattle.std.specs.FinMap.{FinMap, get, insert, remove, retain_keys, empty, entries, entries_sorted, entries-insert, get-entries, get-retain_keys, nat_cmp-IsAntisymmetric, len-entries, len-empty, values}
+use Rattle.std.specs.FinMap.Entries.{put, find, is_sorted, below_all, by_order, is_sorted-put, is_sorted-where_key, find-where_key, same_entries}
+use Rattle.std.proofs.lemmas.Bool.{or_left, or_right}
 use Rattle.std.specs.declared.cmp.Ordering.{Ordering}
 use Rattle.std.specs.declared.cmp.Ordering.TheVariants.{Less, Equal, Greater}
 use Rattle.std.specs.declared.option.Option.{Option}
@@ -114,3 +116,37 @@ module _ {X : Type 0} (test : X → Bool) where
 
   pub count_none : (m : FinMap nat_cmp X) → ((k : ℕ) (v : X) → get m k ≡ Some v → test v ≡ false) → count_by test (values m) ≡ 0
   count_none m fails = unfolded m ∙ none_values (entries m) (entries_sorted m) (λ q. ap one_at (sym (get-entries m q)) ∙ fails_at (get m q) (fails q))
+
+  -- What is kept of a map.
+  entries-retain_keys : (m : FinMap nat_cmp X) (keeps : ℕ → Bool) → entries (retain_keys m keeps) ≡ filter (λ e. keeps e.0) (entries m)
+  entries-retain_keys m keeps =
+      let alike = λ (q x : ℕ) (tied : nat_cmp q x ≡ Equal). ap keeps (sym (nat_cmp-IsAntisymmetric q x tied)) in
+      same_entries nat_cmp nat_cmp_total nat_cmp-IsAntisymmetric _ _ (entries_sorted (retain_keys m keeps)) (is_sorted-where_key nat_cmp keeps (entries m) (entries_sorted m))
+      (λ q. sym (get-entries (retain_keys m keeps) q) ∙ get-retain_keys m keeps q (alike q)
+      ∙ ap (λ x. cond (keeps q) x None) (get-entries m q) ∙ sym (find-where_key nat_cmp keeps q (alike q) (entries m)))
+
+  kept_values : (keeps : ℕ → Bool) (es : List (ℕ × X)) → count_values (filter (λ e. keeps e.0) es) ≤ count_values es
+  kept_values keeps [] = let same : count_values [] ≡ count_values [] = refl in omega arith
+  kept_values keeps (e ∷ es) =
+      let rest = kept_values keeps es in
+      elim (keeps e.0) as (λ b. count_values (cond b (e ∷ filter (λ f. keeps f.0) es) (filter (λ f. keeps f.0) es)) ≤ count_values (e ∷ es)) [
+        | true ↦ omega (arith, count_cons e es, count_cons e (filter (λ f. keeps f.0) es))
+        | false ↦ omega (arith, count_cons e es)
+      ]
+
+  pub count_kept : (m : FinMap nat_cmp X) (keeps : ℕ → Bool) → count_by test (values (retain_keys m keeps)) ≤ count_by test (values m)
+  count_kept m keeps =
+      let after = unfolded (retain_keys m keeps) ∙ ap count_values (entries-retain_keys m keeps) in
+      omega (arith, after, unfolded m, kept_values keeps (entries m))
+
+  -- What a look-up finds is one of the values.
+  found_value : (k : ℕ) (v : X) (es : List (ℕ × X)) → find nat_cmp k es ≡ Some v → test v ≡ true → list_any test (map (λ e. e.1) es) ≡ true
+  found_value k v [] found passes = absurd (cc)
+  found_value k v (e ∷ es) found passes =
+      elim (eq_by_cmp nat_cmp k e.0) as (λ b. cond b (Some e.1) (find nat_cmp k es) ≡ Some v → (test e.1 || list_any test (map (λ f. f.1) es)) ≡ true) [
+        | true ↦ λ here. or_left (test e.1) _ (let same : e.1 ≡ v = cc in ap test same ∙ passes)
+        | false ↦ λ there. or_right (test e.1) _ (found_value k v es there passes)
+      ] found
+
+  pub list_any-get : (m : FinMap nat_cmp X) (k : ℕ) (v : X) → get m k ≡ Some v → test v ≡ true → list_any test (values m) ≡ true
+  list_any-get m k v there passes = found_value k v (entries m) (sym (get-entries m k) ∙ there) passes

@@ -1,30 +1,30 @@
 -- What a call can do to a world, one field each, with the call and the reply to it. What holds of each holds of every answer.
-use Rattle.std.specs.Prelude.{◌≡◌, ℕ, zero, suc, ◌+◌, ◌==◌, ◌<◌, ◌≤◌, Bool, true, false, cond, not, ◌&&◌, ◌||◌, if◌then◌else◌, nat_lt, nat_le, is_some, length, take, drop, List, [], ◌∷◌, ◌++◌}
+use Rattle.std.specs.Prelude.{◌≡◌, ℕ, zero, suc, ◌+◌, ◌==◌, ◌<◌, ◌≤◌, Bool, true, false, cond, not, ◌&&◌, ◌||◌, nat_lt, nat_le, is_some, length, take, drop, List, [], ◌++◌}
 use Rattle.std.specs.FinMap.{empty, len}
 use Rattle.std.specs.declared.option.Option.{Option}
 use Rattle.std.specs.declared.option.Option.TheVariants.{None, Some}
-use Rattle.std.proofs.Common.{arith, refl, subst, ap, sym, ◌∙◌, eq-eqb, eqb-true, leb-true, leb-false, ltb-false, le-leb}
+use Rattle.std.proofs.Common.{arith, refl, subst, ap, ◌∙◌, eqb-true, leb-true, leb-false, ltb-false, le-leb}
 use Rattle.rv_core.specs.declared.context.Context.{Context}
 use Rattle.bas_names.specs.declared.StreamName.{StreamName}
 use Rattle.bas_names.specs.declared.StreamName.TheVariants.{File, ConIn, ConOut, ConErr}
-use Rattle.bas_edge.specs.Files.{Files, file_of, file_bytes, with_file, with_bytes_at}
-use Rattle.guest_space.specs.Space.{Space, IsSpace, memory_of, with_run, protected, bytes_from, with_memory}
+use Rattle.bas_edge.specs.Files.{Files, file_of, with_file, with_bytes_at}
+use Rattle.guest_space.specs.Space.{Space, memory_of, with_run, protected, bytes_from, with_memory}
 use Rattle.guest_space.specs.Run.{is_run, first_held, first_missing}
 use Rattle.guest_space.specs.Access.{AccessFault, Missing, Forbidden, first_fault, with_bytes}
 use Rattle.turn_sched.specs.Lists.{is_resting, with_resumed}
 use Rattle.abi_calls.specs.declared.limits.TheConstants.{MOST_BYTES, MOST_PAGES, MOST_PROCESSES, MOST_THREADS, LONGEST_NAME, LONGEST_FILE, ALL_RIGHTS, READ_RIGHT, WRITE_RIGHT}
 use Rattle.abi_calls.specs.declared.call.Call.{Call}
 use Rattle.abi_calls.specs.declared.call.Call.TheVariants.{MemoryAllocate, MemoryProtect, MemoryRead, MemoryWrite, ThreadCreate, ThreadResume, ThreadContext, EventCreate, StreamOpen, StreamRead, StreamWrite, StreamLength, Close, ProcessCreate, ProcessExit, Configure}
-use Rattle.abi_calls.specs.declared.object.Object.TheVariants.{Process, Thread, Event, Stream, ReadEnd, WriteEnd}
+use Rattle.abi_calls.specs.declared.object.Object.TheVariants.{Process, Thread, Event, Stream}
 use Rattle.abi_calls.specs.declared.reply.Reply.{Reply}
-use Rattle.abi_calls.specs.declared.reply.Reply.TheVariants.{Done, Handle, Bytes, Count, Length, BadHandle, NotFound, Exists, Busy, NoAccess, BadAddress, NoRoom, TooBig}
+use Rattle.abi_calls.specs.declared.reply.Reply.TheVariants.{Done, Handle, Bytes, Count, BadHandle, NotFound, Exists, Busy, NoAccess, BadAddress, NoRoom, TooBig}
 use Rattle.abi_calls.specs.declared.settings.Positions.{Positions}
 use Rattle.abi_calls.specs.declared.settings.Settings.{Settings}
 use Rattle.abi_calls.specs.Objects.{Object, Objects, object_at, running, is_thread, is_process, number_of, with_object, with_lists, without_handles}
-use Rattle.abi_calls.specs.World.{World, Contents, Answer, with_objects, with_contents, with_files, on_objects, on_contents}
+use Rattle.abi_calls.specs.World.{World, Answer, with_objects, with_contents, with_files, on_objects, on_contents}
 use Rattle.abi_calls.specs.Memory.{with_pages, memory_allocate_row, memory_protect_row, memory_read_row, memory_write_row, unless_fault}
 use Rattle.abi_calls.specs.Threads.{with_thread, thread_create_row, thread_resume_row, thread_context_row}
-use Rattle.abi_calls.specs.Streams.{is_name, named, open_found, open_answer, file_open_row, stream_open_row, read_row, stream_read_row, file_write_row, write_row, stream_write_row, length_row, stream_length_row}
+use Rattle.abi_calls.specs.Streams.{is_name, open_found, open_answer, stream_open_row, read_row, stream_read_row, write_row, stream_write_row, length_row, stream_length_row}
 use Rattle.abi_calls.specs.Processes.{close_row, process_create_row, process_exit_row, configure_row, without_threads, is_running, is_acceptable}
 use Rattle.abi_calls.specs.Sound.{is_sound_name}
 use Rattle.abi_calls.specs.Abi.{Abi, answer, new_number}
@@ -171,7 +171,7 @@ module _ (w : World) (P : Call → Reply → World → Type 0) (e : Effects w P)
       chosen Q (nat_lt LONGEST_NAME (length name)) (TooBig, w.contents.files) (cond (length name == 0) (NotFound, w.contents.files) row) (λ _. e.stays c TooBig refl) (λ short.
       chosen Q (length name == 0) (NotFound, w.contents.files) row (λ _. e.stays c NotFound refl) (λ some.
       found_at name create exclusive h (file_of w.contents.files name)
-          (ap (λ b. b && nat_le (length name) LONGEST_NAME) (not_empty (length name) some) ∙ le-leb (length name) LONGEST_NAME (ltb-false LONGEST_NAME (length name) short)) refl))
+      (ap (λ b. b && nat_le (length name) LONGEST_NAME) (not_empty (length name) some) ∙ le-leb (length name) LONGEST_NAME (ltb-false LONGEST_NAME (length name) short)) refl))
 
   open_at : (name : StreamName) (create exclusive : Bool) (h : ℕ) → At (StreamOpen name create exclusive) (stream_open_row w name create exclusive h)
   open_at (File name) create exclusive h = file_at name create exclusive h

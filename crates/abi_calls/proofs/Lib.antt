@@ -5,3 +5,8 @@ pub mod PositionsKept
 pub mod Facts
 pub mod TurnFacts
 pub mod Worked
+pub mod SoundProp
+pub mod SoundChanges
+pub mod Sounds
+pub mod RenamedObjects
+pub mod RenamedTurns

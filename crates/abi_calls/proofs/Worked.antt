@@ -1,18 +1,18 @@
 -- Worked examples: what the definitions say of small worlds.
-use Rattle.std.specs.Prelude.{◌≡◌, ℕ, ◌+◌, ◌==◌, ◌-◌, ◌^◌, Bool, true, false, cond, ◌||◌, if◌then◌else◌, nat_lt, nat_le, is_some, List, [], ◌∷◌, ◌++◌, map, filter, not, replicate, take, drop}
+use Rattle.std.specs.Prelude.{◌≡◌, ℕ, ◌+◌, ◌==◌, ◌-◌, ◌^◌, Bool, true, false, cond, ◌||◌, if◌then◌else◌, nat_lt, nat_le, is_some, List, [], ◌∷◌, ◌++◌, map, not, replicate, take, drop}
 use Rattle.std.specs.Option.{option_or}
 use Rattle.std.specs.FinMap.{insert, empty, len, len-empty}
 use Rattle.std.specs.Ordering.{nat_cmp}
 use Rattle.std.specs.declared.option.Option.{Option}
 use Rattle.std.specs.declared.option.Option.TheVariants.{None, Some}
-use Rattle.std.proofs.Common.{refl, ap, sym, ◌∙◌, eq-eqb, arith}
+use Rattle.std.proofs.Common.{refl, ap, ◌∙◌, eq-eqb, arith}
 use Rattle.rv_core.specs.declared.context.Context.{Context}
 use Rattle.rv_core.specs.Machine.{instructions, Reached, go_on, executed_at}
 use Rattle.rv_core.specs.Memory.{fetched, byte_if, above, number_at}
 use Rattle.guest_space.specs.Space.{Space, Frame, memory_of, cell_in, with_run, protected, bytes_from}
 use Rattle.guest_space.specs.Running.{run_space, ran_from}
 use Rattle.guest_space.specs.First.{first_some}
-use Rattle.guest_space.specs.Run.{first_held, first_missing, if_missing}
+use Rattle.guest_space.specs.Run.{first_held, first_missing}
 use Rattle.bas_names.specs.declared.StreamName.TheVariants.{File, ConIn, ConOut}
 use Rattle.bas_edge.specs.Files.{file_of}
 use Rattle.turn_sched.specs.Lists.{Waiting, Lists, is_resting, with_resumed, contains, is_at, no_threads}
@@ -23,13 +23,13 @@ use Rattle.abi_calls.specs.declared.settings.Settings.{Settings}
 use Rattle.abi_calls.specs.declared.reply.Reply.{Reply}
 use Rattle.abi_calls.specs.declared.reply.Reply.TheVariants.{Done, Handle, Bytes, Count, BadHandle, NotFound, Exists, Busy, NoAccess, BadAddress, NoRoom, TooBig}
 use Rattle.abi_calls.specs.declared.threads.Turned.TheVariants.{Idle, Stuck, Exception}
-use Rattle.abi_calls.specs.Objects.{is_process, is_thread, number_of, Object, Objects, Live, object_at, running, with_object, with_lists, without_handles, next_position}
-use Rattle.abi_calls.specs.World.{World, Answer, with_objects, with_contents, on_objects}
+use Rattle.abi_calls.specs.Objects.{is_process, is_thread, number_of, Objects, Live, object_at, running, with_object, with_lists, without_handles, next_position}
+use Rattle.abi_calls.specs.World.{World, with_objects, with_contents, on_objects}
 use Rattle.abi_calls.specs.Memory.{memory_allocate_row, memory_protect_row, memory_read_row, with_pages}
 use Rattle.abi_calls.specs.Threads.{with_thread, thread_create_row, thread_resume_row}
 use Rattle.abi_calls.specs.Streams.{open_found, open_answer, stream_read_row, stream_write_row}
-use Rattle.abi_calls.specs.Processes.{close_row, process_create_row, process_exit_row, configure_row, is_running, without_threads}
-use Rattle.abi_calls.specs.Turn.{world_turn, with_pick, pick_of, pick_word, run_thread, run_in, run_answer, with_due_ready, is_due, is_signalled_object, with_turn}
+use Rattle.abi_calls.specs.Processes.{close_row, process_exit_row, is_running, without_threads}
+use Rattle.abi_calls.specs.Turn.{world_turn, with_pick, pick_of, run_thread, run_in, run_answer, with_due_ready, is_due, is_signalled_object, with_turn}
 use Rattle.abi_calls.specs.Abi.{Abi, answer, new_number}
 use Rattle.abi_calls.proofs.Counts.{count_empty}
 use Rattle.abi_calls.proofs.NumberMaps.{get_none, get_same, get_other}
@@ -281,7 +281,6 @@ at_five = get_other (insert empty 5 (Event true)) 6 (Event false) 5 (λ same. ab
 
 at_six : object_at three_events 6 ≡ Some (Event false)
 at_six = get_same (insert empty 5 (Event true)) 6 (Event false)
-
 
 -- those that are due, by which of the three are
 ready_by : Bool → Bool → Bool → List Waiting

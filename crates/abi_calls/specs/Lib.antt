@@ -7,6 +7,7 @@ pub mod Processes
 pub mod Abi
 pub mod Failing
 pub mod Rules
+pub mod Renaming
 pub mod Turn
 pub mod Sound
 pub mod Fresh

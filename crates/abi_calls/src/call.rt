@@ -5,7 +5,7 @@ use rv_core::Context;
 
 /// A call of the host's interface. Handles are numbers of at least 1; rights are 1 to read, 2 to write and
 /// 4 to run, added up; a page has 4,096 bytes.
-#[derive(Debug, Drop)]
+#[derive(Clone, Debug, Drop)]
 pub enum Call {
     /// Makes pages of zeros.
     MemoryAllocate {

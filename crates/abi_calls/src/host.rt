@@ -47,7 +47,7 @@ impl From<EdgeError> for HostError {
 }
 
 /// An answered call: how many turns were made before it, the call, and its reply.
-#[derive(Debug, Drop)]
+#[derive(Clone, Debug, Drop)]
 pub struct Crossing {
     pub turns: u64,
     pub call: Call,

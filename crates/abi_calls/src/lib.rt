@@ -3,6 +3,7 @@
 
 mod call;
 mod host;
+mod laws;
 pub mod limits;
 mod object;
 mod reply;
@@ -12,6 +13,7 @@ mod threads;
 pub use bas_names::StreamName;
 pub use call::Call;
 pub use host::{Crossing, Host, HostError};
+pub use laws::{rules_of_a_host, turn_keeps_names};
 pub use object::Object;
 pub use reply::Reply;
 pub use settings::{Positions, Settings};

@@ -1,7 +1,7 @@
 use bas_items::Items;
 
 /// What a host answers to a call. The last eight refuse it and leave the world as it was.
-#[derive(Debug, Drop)]
+#[derive(Clone, Debug, Drop)]
 pub enum Reply {
     /// It is done.
     Done,

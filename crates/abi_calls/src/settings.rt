@@ -1,7 +1,7 @@
 use bas_items::Items;
 
 /// What fixes the schedule, the clock and the random words of a run.
-#[derive(Debug, Drop)]
+#[derive(Clone, Debug, Drop)]
 pub struct Settings {
     /// The time of turn 0, in nanoseconds.
     pub start: u64,

@@ -108,7 +108,7 @@ is_waiting_with h w = w.thread == h || contains w.handles h
 abbrev pub mentions_number : Lists Waiting → ℕ → Bool
 mentions_number l h =
     contains l.ready h || (list_any (is_waiting_with h) l.waiting ||
-        (contains l.suspended h || is_at h l.current))
+    (contains l.suspended h || is_at h l.current))
 
 -- How often a number stands in a list.
 abbrev pub times : ℕ → List ℕ → ℕ
@@ -126,7 +126,7 @@ waiting_threads l = map (λ w. w.thread) l.waiting
 abbrev pub standings : Lists Waiting → ℕ → ℕ
 standings l t =
     times t l.ready + (times t (waiting_threads l) +
-        (times t l.suspended + times t (option_list l.current)))
+    (times t l.suspended + times t (option_list l.current)))
 
 -- The same lists where each number has another name.
 abbrev pub renamed_waiting : (ℕ → ℕ) → Waiting → Waiting
