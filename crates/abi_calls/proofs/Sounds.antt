@@ -170,7 +170,7 @@ fits_fresh o h x sound fresh itself processes threads =
     }
 
 -- A new object that is neither a process nor a thread.
-IsSound-with_new : (o : Objects) (h : ℕ) (x : Object) → IsSound o → IsFresh o h → IsSoundObject (with_object o h x) x → is_process x ≡ false → is_thread x ≡ false
+pub IsSound-with_new : (o : Objects) (h : ℕ) (x : Object) → IsSound o → IsFresh o h → IsSoundObject (with_object o h x) x → is_process x ≡ false → is_thread x ≡ false
     → is_some_thread (Some x) ≡ false → IsSound (with_object o h x)
 IsSound-with_new o h x sound fresh itself no_process no_thread other =
     let processes : one_of is_process x ≡ 0 = ap (λ b. cond b 1 0) no_process in
