@@ -9,8 +9,8 @@ pub record Ties {V : Type 0} (live : ℕ → Bool) (objects : FinMap nat_cmp V) 
   pub at : (q : ℕ) → is_some (get objects q) ≡ true → live q ≡ true
 
 -- A value is added under a number of at least 1 that names nothing yet.
-pub record Adds {V : Type 0} (old : FinMap nat_cmp V) (value : V) (new : FinMap nat_cmp V) (number : ℕ)
-    : Type 0 where
+pub record Adds {V : Type 0} (old : FinMap nat_cmp V) (value : V) (new : FinMap nat_cmp V)
+    (number : ℕ) : Type 0 where
   pub positive : 1 ≤ number
   pub free : get old number ≡ None
   pub now : new ≡ insert old number value

@@ -83,7 +83,9 @@ impl<N: Numbers + Drop> System<N> {
         count: u64,
         rights: u8,
     ) -> Result<Reply, Memory>
-        ensures row { IfOk result (λ reply. Row (system_objects self.old) (MemoryAllocate process page count rights) reply (system_objects self.new)) }
+        ensures row { IfOk result (λ reply.
+            Row (system_objects self.old) (MemoryAllocate process page count rights)
+            reply (system_objects self.new)) }
         ensures same { OnErr result (system_objects self.new ≡ system_objects self.old) }
     {
         let Some(mut memory) = self.take_memory(process) else {
@@ -105,7 +107,8 @@ impl<N: Numbers + Drop> System<N> {
         count: u64,
         rights: u8,
     ) -> Reply
-        ensures { Row (system_objects self.old) (MemoryProtect process page count rights) result (system_objects self.new) }
+        ensures { Row (system_objects self.old) (MemoryProtect process page count rights)
+            result (system_objects self.new) }
     {
         let Some(mut memory) = self.take_memory(process) else {
             return Reply::BadHandle;
@@ -127,7 +130,9 @@ impl<N: Numbers + Drop> System<N> {
         address: u64,
         count: u64,
     ) -> Result<Reply, Memory>
-        ensures { IfOk result (λ reply. Row (system_objects self.now) (MemoryRead process address count) reply (system_objects self.now)) }
+        ensures { IfOk result (λ reply.
+            Row (system_objects self.now) (MemoryRead process address count)
+            reply (system_objects self.now)) }
     {
         let Some(memory) = self.memory(process) else {
             return Ok(Reply::BadHandle);
@@ -144,7 +149,8 @@ impl<N: Numbers + Drop> System<N> {
 
     /// MemoryWrite.
     pub(crate) fn memory_write(&mut self, process: u64, address: u64, bytes: &[u8]) -> Reply
-        ensures row { Row (system_objects self.old) (MemoryWrite process address bytes.now) result (system_objects self.new) }
+        ensures row { Row (system_objects self.old) (MemoryWrite process address bytes.now)
+            result (system_objects self.new) }
         ensures bytes { All (λ byte. byte < 2 ^ 8) bytes.now }
     {
         let fits = is_within_limit(bytes);

@@ -8,7 +8,7 @@ ghost use Rattle.host_objects.specs.Rows.{Row, HasNoThread};
 
 use crate::kinds::{is_running, is_thread};
 use crate::numbers::Numbers;
-use crate::settings::{copied, is_acceptable};
+use crate::settings::is_acceptable;
 use crate::system::System;
 use abi_calls::limits::MOST_PROCESSES;
 use abi_calls::{Object, Positions, Reply, Settings};
@@ -19,7 +19,8 @@ impl<N: Numbers + Drop> System<N> {
     /// Close.
     #[tactic(auto, using(crate::proofs::Rows::busy_row, crate::proofs::Rows::closed_row))]
     pub(crate) fn close(&mut self, handle: u64) -> Reply
-        ensures { Row (system_objects self.old) (Close handle) result (system_objects self.new) }
+        ensures { Row (system_objects self.old) (Close handle)
+            result (system_objects self.new) }
     {
         let Some(object) = self.handles.get(handle) else {
             return Reply::BadHandle;
@@ -35,7 +36,9 @@ impl<N: Numbers + Drop> System<N> {
     /// ProcessCreate.
     pub(crate) fn process_create(&mut self) -> Result<Reply, Memory>
         requires { IsSound (system_objects self.old) }
-        ensures row { IfOk result (λ reply. Row (system_objects self.old) ProcessCreate reply (system_objects self.new)) }
+        ensures row { IfOk result (λ reply.
+            Row (system_objects self.old) ProcessCreate
+            reply (system_objects self.new)) }
         ensures same { OnErr result (system_objects self.new ≡ system_objects self.old) }
     {
         if self.census().processes >= MOST_PROCESSES {
@@ -48,7 +51,8 @@ impl<N: Numbers + Drop> System<N> {
 
     /// ProcessExit.
     pub(crate) fn process_exit(&mut self, process: u64, code: u8) -> Reply
-        ensures { Row (system_objects self.old) (ProcessExit process code) result (system_objects self.new) }
+        ensures { Row (system_objects self.old) (ProcessExit process code)
+            result (system_objects self.new) }
     {
         if self.memory(process).is_none() {
             return Reply::BadHandle;
@@ -74,7 +78,8 @@ impl<N: Numbers + Drop> System<N> {
 
     /// The first thread of a process.
     fn thread_of(&self, process: u64) -> Option<u64>
-        ensures found { IfSome result (λ thread. is_thread_of process (object_at (system_objects self.now) thread) ≡ true) }
+        ensures found { IfSome result (λ thread.
+            is_thread_of process (object_at (system_objects self.now) thread) ≡ true) }
         ensures none { IfNone result (HasNoThread (system_objects self.now) process) }
     {
         for number in self.handles.numbers() {
@@ -101,7 +106,9 @@ impl<N: Numbers + Drop> System<N> {
         settings: &Settings,
         positions: Positions,
     ) -> Result<Reply, Memory>
-        ensures row { IfOk result (λ reply. Row (system_objects self.old) (Configure settings.now positions) reply (system_objects self.new)) }
+        ensures row { IfOk result (λ reply.
+            Row (system_objects self.old) (Configure settings.now positions)
+            reply (system_objects self.new)) }
         ensures same { OnErr result (system_objects self.new ≡ system_objects self.old) }
     {
         if !is_acceptable(settings) {
@@ -110,7 +117,7 @@ impl<N: Numbers + Drop> System<N> {
         if self.positions.turns != 0 || self.census().running > 0 {
             return Ok(Reply::Busy);
         }
-        self.settings = copied(self.alloc, settings)?;
+        self.settings = settings.clone()?;
         self.positions = positions;
         Ok(Reply::Done)
     }

@@ -72,9 +72,12 @@ impl<N: Numbers + Drop> System<N> {
 
     /// How many objects of each kind there are.
     pub(crate) fn census(&self) -> Census
-        ensures processes { result.processes ≡ number_of kinds.is_process (system_objects self.now).live }
-        ensures running { result.running ≡ number_of processes.is_running (system_objects self.now).live }
-        ensures threads { result.threads ≡ number_of kinds.is_thread (system_objects self.now).live }
+        ensures processes { result.processes
+            ≡ number_of kinds.is_process (system_objects self.now).live }
+        ensures running { result.running
+            ≡ number_of processes.is_running (system_objects self.now).live }
+        ensures threads { result.threads
+            ≡ number_of kinds.is_thread (system_objects self.now).live }
     {
         let mut processes = 0;
         let mut running = 0;

@@ -15,7 +15,9 @@ impl<N: Numbers + Drop> System<N> {
     /// ThreadCreate.
     pub(crate) fn thread_create(&mut self, process: u64, context: Context) -> Result<Reply, Memory>
         requires { IsSound (system_objects self.old) }
-        ensures row { IfOk result (λ reply. Row (system_objects self.old) (ThreadCreate process context) reply (system_objects self.new)) }
+        ensures row { IfOk result (λ reply.
+            Row (system_objects self.old) (ThreadCreate process context)
+            reply (system_objects self.new)) }
         ensures same { OnErr result (system_objects self.new ≡ system_objects self.old) }
     {
         if self.memory(process).is_none() {
@@ -32,7 +34,8 @@ impl<N: Numbers + Drop> System<N> {
 
     /// ThreadResume.
     pub(crate) fn thread_resume(&mut self, thread: u64) -> Reply
-        ensures { Row (system_objects self.old) (ThreadResume thread) result (system_objects self.new) }
+        ensures { Row (system_objects self.old) (ThreadResume thread)
+            result (system_objects self.new) }
     {
         let Some(Object::Thread { .. }) = self.handles.get(thread) else {
             return Reply::BadHandle;
@@ -46,7 +49,8 @@ impl<N: Numbers + Drop> System<N> {
 
     /// ThreadContext.
     pub(crate) fn thread_context(&mut self, thread: u64, context: Context) -> Reply
-        ensures { Row (system_objects self.old) (ThreadContext thread context) result (system_objects self.new) }
+        ensures { Row (system_objects self.old) (ThreadContext thread context)
+            result (system_objects self.new) }
     {
         let Some(Object::Thread { process, .. }) = self.handles.get(thread) else {
             return Reply::BadHandle;
@@ -63,7 +67,9 @@ impl<N: Numbers + Drop> System<N> {
     /// EventCreate.
     pub(crate) fn event_create(&mut self) -> Result<Reply, Memory>
         requires { IsSound (system_objects self.old) }
-        ensures row { IfOk result (λ reply. Row (system_objects self.old) EventCreate reply (system_objects self.new)) }
+        ensures row { IfOk result (λ reply.
+            Row (system_objects self.old) EventCreate
+            reply (system_objects self.new)) }
         ensures same { OnErr result (system_objects self.new ≡ system_objects self.old) }
     {
         let number = self.handles.add(Object::Event { set: false })?;
