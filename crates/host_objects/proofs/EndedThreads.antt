@@ -9,7 +9,7 @@ use Rattle.std.specs.declared.option.Option.TheVariants.{None, Some}
 use Rattle.std.proofs.Common.{refl, sym, ap, ◌∙◌, cond, arith, eqb-true}
 use Rattle.turn_sched.specs.Lists.{Lists}
 use Rattle.turn_sched.specs.Schedules.{without_thread}
-use Rattle.abi_calls.specs.declared.object.Object.TheVariants.{Process, Thread}
+use Rattle.abi_calls.specs.declared.object.Object.TheVariants.{Process}
 use Rattle.abi_calls.specs.Objects.{Object, Objects, Live, Pipes, object_at, is_thread_of, running, without_handles, has_end}
 use Rattle.abi_calls.specs.Processes.{without_threads}
 use Rattle.bas_items.proofs.NumberMaps.{get-retain_keys, same_numbers, retain_keys-all, get-empty}

@@ -1,9 +1,9 @@
 -- Numbers that leave the lists of threads, and the lists of a scheduler as a world sees them.
-use Rattle.std.specs.Prelude.{◌≡◌, ℕ, Bool, true, false, ◌==◌, ◌||◌, not, is_some, List, [], ◌∷◌, map, filter}
+use Rattle.std.specs.Prelude.{◌≡◌, ℕ, Bool, true, false, ◌==◌, ◌||◌, not, List, [], ◌∷◌, map, filter}
 use Rattle.std.specs.List.{list_any}
 use Rattle.std.specs.declared.option.Option.{Option}
 use Rattle.std.specs.declared.option.Option.TheVariants.{None, Some}
-use Rattle.std.proofs.Common.{refl, sym, ap, ◌∙◌, cond}
+use Rattle.std.proofs.Common.{refl, ap, ◌∙◌, cond}
 use Rattle.turn_sched.specs.Lists.{Waiting, Lists, contains, is_at, other_than, unless_ended, with_gone, without_numbers, mentions_number, is_waiting_with}
 use Rattle.turn_sched.specs.Schedules.{is_listed, without_thread}
 use Rattle.host_objects.specs.System.{wait_for_nothing, world_lists}

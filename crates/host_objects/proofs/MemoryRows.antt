@@ -12,14 +12,14 @@ use Rattle.guest_space.specs.Run.{is_run, first_held, first_missing, if_missing}
 use Rattle.guest_space.proofs.FirstSome.{first_some_none_at}
 use Rattle.guest_space.specs.Access.{AccessFault, Missing, Forbidden, first_fault, with_bytes}
 use Rattle.guest_memory.specs.declared.error.PageError.{PageError}
-use Rattle.guest_memory.specs.declared.error.PageError.TheVariants.{Overlap, Unmapped, Denied, Range, Full, Memory as NoMemory}
+use Rattle.guest_memory.specs.declared.error.PageError.TheVariants.{Overlap, Unmapped, Range, Full, Memory as NoMemory}
 use Rattle.guest_memory.specs.Refusals.{allocate_refusal, protect_refusal}
 use Rattle.abi_calls.specs.declared.object.Object.TheVariants.{Process}
 use Rattle.abi_calls.specs.declared.call.Call.{Call}
 use Rattle.abi_calls.specs.declared.call.Call.TheVariants.{MemoryAllocate, MemoryProtect, MemoryWrite}
 use Rattle.abi_calls.specs.declared.reply.Reply.{Reply}
 use Rattle.abi_calls.specs.declared.reply.Reply.TheVariants.{Handle, Done, Exists, NoRoom, BadAddress}
-use Rattle.abi_calls.specs.Objects.{Objects, Live, object_at, running, with_object}
+use Rattle.abi_calls.specs.Objects.{Objects, Live, object_at, running}
 use Rattle.abi_calls.specs.World.{World, world_of}
 use Rattle.abi_calls.specs.Memory.{with_pages, memory_allocate_row, memory_protect_row, memory_write_row, unless_fault}
 use Rattle.abi_calls.specs.Abi.{object_row, IsFreeChoice}

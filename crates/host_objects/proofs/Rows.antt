@@ -8,18 +8,18 @@ use Rattle.std.proofs.lemmas.Bool.{cond-false}
 use Rattle.rv_core.specs.declared.context.Context.{Context}
 use Rattle.guest_space.specs.Space.{Space}
 use Rattle.bas_names.specs.declared.StreamName.{StreamName}
-use Rattle.turn_sched.specs.Lists.{Waiting, Lists, with_suspended, mentions_number, without_numbers}
+use Rattle.turn_sched.specs.Lists.{Lists, with_suspended, mentions_number, without_numbers}
 use Rattle.turn_sched.specs.Schedules.{is_listed, without_thread}
-use Rattle.abi_calls.specs.declared.object.Object.TheVariants.{Process, Thread, Event, Stream, ReadEnd, WriteEnd}
+use Rattle.abi_calls.specs.declared.object.Object.TheVariants.{Process, Thread, Event, Stream}
 use Rattle.abi_calls.specs.declared.call.Call.{Call}
-use Rattle.abi_calls.specs.declared.call.Call.TheVariants.{MemoryAllocate, MemoryProtect, MemoryRead, MemoryWrite, ThreadCreate, ThreadResume, ThreadContext, EventCreate, StreamOpen, StreamRead, StreamWrite, StreamLength, Close, ProcessCreate, ProcessExit, Configure}
+use Rattle.abi_calls.specs.declared.call.Call.TheVariants.{ThreadCreate, EventCreate, StreamOpen, StreamRead, StreamWrite, StreamLength, Close, ProcessCreate}
 use Rattle.abi_calls.specs.declared.reply.Reply.{Reply}
 use Rattle.abi_calls.specs.declared.reply.Reply.TheVariants.{Handle, Done, BadHandle, Busy}
-use Rattle.abi_calls.specs.Objects.{Object, Objects, Live, Pipes, IsFresh, object_at, running, number_of, is_thread, is_process, with_object, without_handles, has_end}
+use Rattle.abi_calls.specs.Objects.{Object, Objects, Live, Pipes, IsFresh, object_at, running, number_of, is_thread, is_process, without_handles, has_end}
 use Rattle.abi_calls.specs.Threads.{thread_create_row}
 use Rattle.abi_calls.specs.Streams.{stream_read_row, stream_write_row, stream_length_row}
 use Rattle.abi_calls.specs.Processes.{close_row, is_running}
-use Rattle.abi_calls.specs.World.{World, Contents, Answer, world_of}
+use Rattle.abi_calls.specs.World.{Contents, world_of}
 use Rattle.abi_calls.specs.Abi.{Abi, answer, object_row, is_outside, is_stream}
 use Rattle.abi_calls.specs.Sound.{IsSound, HasBytes, is_sound_name}
 use Rattle.bas_items.proofs.NumberMaps.{get-empty, retain_keys-all, retain_keys-others}

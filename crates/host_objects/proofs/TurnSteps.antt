@@ -11,13 +11,13 @@ use Rattle.rv_core.specs.Machine.{trap_of}
 use Rattle.guest_space.specs.Space.{Space}
 use Rattle.guest_space.specs.Running.{run_space}
 use Rattle.turn_sched.specs.Lists.{Waiting, Lists}
-use Rattle.abi_calls.specs.declared.object.Object.TheVariants.{Process, Thread}
+use Rattle.abi_calls.specs.declared.object.Object.TheVariants.{Thread}
 use Rattle.abi_calls.specs.declared.threads.Turned.{Turned}
 use Rattle.abi_calls.specs.declared.threads.Turned.TheVariants.{Stuck}
 use Rattle.abi_calls.specs.Objects.{Object, Objects, object_at, running, with_object}
 use Rattle.abi_calls.specs.Memory.{with_pages}
 use Rattle.abi_calls.specs.Sound.{IsSound}
-use Rattle.abi_calls.specs.Turn.{is_due, with_due_ready, idle_turn, pick_of, turn_of_pick, world_turn}
+use Rattle.abi_calls.specs.Turn.{is_due, with_due_ready, pick_of, turn_of_pick, world_turn}
 use Rattle.bas_items.proofs.NumberMaps.{get-insert}
 use Rattle.abi_calls.proofs.Facts.{ready_thread}
 use Rattle.host_objects.specs.declared.turns.Slice.{Slice}

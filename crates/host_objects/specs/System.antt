@@ -1,5 +1,5 @@
 -- The objects, lists, positions and settings that a host keeps, as a world sees them.
-use Rattle.std.specs.Prelude.{ℕ, List, [], map}
+use Rattle.std.specs.Prelude.{ℕ, [], map}
 use Rattle.std.specs.FinMap.{empty}
 use Rattle.std.specs.declared.option.Option.TheVariants.{None}
 use Rattle.turn_sched.specs.Lists.{Waiting, Lists}

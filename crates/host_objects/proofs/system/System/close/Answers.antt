@@ -1,4 +1,4 @@
-use Rattle.std.proofs.Common.{rules, refl, ap, sym, ◌∙◌}
+use Rattle.std.proofs.Common.{rules, refl}
 use Rattle.host_objects.specs.System.{system_objects}
 use Rattle.host_objects.proofs.Rows.{closed_row}
 use Rattle.host_objects.proofs.system.System.close.Goals as goal

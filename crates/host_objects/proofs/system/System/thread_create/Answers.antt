@@ -1,4 +1,4 @@
-use Rattle.std.proofs.Common.{rules, refl}
+use Rattle.std.proofs.Common.{rules}
 use Rattle.host_objects.specs.System.{system_objects}
 use Rattle.host_objects.proofs.Rows.{thread_row, unlisted_added}
 use Rattle.host_objects.proofs.system.System.thread_create.Goals as goal

@@ -1,4 +1,4 @@
-use Rattle.std.proofs.Common.{refl, sym, rules}
+use Rattle.std.proofs.Common.{refl, rules}
 use Rattle.abi_calls.specs.Turn.{pick_of}
 use Rattle.host_objects.specs.System.{system_objects}
 use Rattle.host_objects.proofs.TurnSteps.{ready_home, turn_by_pick, turn_stuck}
