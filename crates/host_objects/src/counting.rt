@@ -53,7 +53,8 @@ impl Numbers for Counting {
 
     fn give(&mut self) -> Result<u64, Memory>
         ensures given { IfOk result (Gives (is_live_in self.old) (is_live_in self.new)) }
-        ensures counts { IfOk result (λ number. Counts (last_of self.old) (is_live_in self.old) number (last_of self.new)) }
+        ensures counts { IfOk result (λ number.
+            Counts (last_of self.old) (is_live_in self.old) number (last_of self.new)) }
         ensures same { OnErr result (StaysLive (is_live_in self.old) (is_live_in self.new)) }
         ensures same_last { OnErr result (last_of self.new ≡ last_of self.old) }
     {
