@@ -12,9 +12,10 @@ use Rattle.guest_space.specs.Space.{Space, Frame, in_run, page_rights, with_run,
 use Rattle.guest_space.specs.Run.{first_missing, if_missing}
 use Rattle.guest_space.specs.Regions.{extent_end, AreMaximal, AreRegions, extent_rights, merged, page_extent, regions, pages_before, pages_from, with_extent, without_pages}
 use Rattle.guest_space.proofs.Gets.{get-without_run}
+use Rattle.guest_space.proofs.Spaces.{both}
 use Rattle.guest_space.proofs.FirstSome.{first_some_none_at}
 use Rattle.guest_space.proofs.Filling.{page_rights-with_run, page_rights-protected, page_rights-with_memory}
-use Rattle.guest_space.proofs.Regions.{AreRising, AreRising-weaker, AreFrom, AreFrom-zero, both, merged-maximal, extent_rights-merged, same_extents}
+use Rattle.guest_space.proofs.Regions.{AreRising, AreRising-weaker, AreFrom, AreFrom-zero, merged-maximal, extent_rights-merged, same_extents}
 
 -- ---- the pages one by one
 

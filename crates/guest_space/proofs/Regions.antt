@@ -1,10 +1,11 @@
 -- Lists of extents: what joining them keeps, and that the maximal list with given rights is one.
-use Rattle.std.proofs.Common.{◌≡◌, ℕ, ◌+◌, ◌<◌, ◌≤◌, ◌==◌, ◌&&◌, Bool, true, false, cond, List, [], ◌∷◌, refl, sym, ap, ◌∙◌, arith, Some, None, inl, inr}
+use Rattle.std.proofs.Common.{◌≡◌, ℕ, ◌+◌, ◌<◌, ◌≤◌, ◌==◌, ◌&&◌, true, false, cond, List, [], ◌∷◌, refl, sym, ap, ◌∙◌, arith, Some, None, inl, inr}
 use Rattle.std.proofs.lemmas.Bool.{cases_lt, cases_eq, eqb-true}
 use Rattle.std.proofs.lemmas.Bool.Decides.{nat_tests}
 use Rattle.std.proofs.lemmas.Option.{none-some, same_Some}
 use Rattle.guest_space.specs.declared.Extent.{Extent}
 use Rattle.guest_space.specs.Space.{in_run}
+use Rattle.guest_space.proofs.Spaces.{both}
 use Rattle.guest_space.specs.Regions.{extent_end, IsBefore, AreMaximal, extent_rights, joined, merged}
 
 -- extents that have pages and rise from a page on
@@ -38,11 +39,6 @@ IsBefore-two e next [] at same before = tt
 IsBefore-two e next (f ∷ es) at same before =
     let low = before.0 in
     (omega arith, λ here rights. before.1 (omega arith) (sym same ∙ rights))
-
-pub both : (a b : Bool) → (a && b) ≡ true → (a ≡ true) × (b ≡ true)
-both true true is = (refl, refl)
-both true false is = absurd (cc)
-both false b is = absurd (cc)
 
 not_both : (a b c d : ℕ) → ((a == b) && (c == d)) ≡ false → a ≡ b → c ≡ d → ⊥
 not_both a b c d is x y = grind (arith, nat_tests)
