@@ -103,13 +103,13 @@ in_run_before page count q low = grind (arith, nat_tests)
 pub in_run_behind : (page count q : ℕ) → page + count ≤ q → in_run page count q ≡ false
 in_run_behind page count q high = grind (arith, nat_tests)
 
-extent_rights_here : (e : Extent) (es : List Extent) (q : ℕ) → e.page ≤ q → q < extent_end e → extent_rights (e ∷ es) q ≡ Some e.rights
+pub extent_rights_here : (e : Extent) (es : List Extent) (q : ℕ) → e.page ≤ q → q < extent_end e → extent_rights (e ∷ es) q ≡ Some e.rights
 extent_rights_here e es q low high = ap (λ b. cond b (Some e.rights) (extent_rights es q)) (in_run_within e.page e.count q low high)
 
-extent_rights_behind : (e : Extent) (es : List Extent) (q : ℕ) → extent_end e ≤ q → extent_rights (e ∷ es) q ≡ extent_rights es q
+pub extent_rights_behind : (e : Extent) (es : List Extent) (q : ℕ) → extent_end e ≤ q → extent_rights (e ∷ es) q ≡ extent_rights es q
 extent_rights_behind e es q high = ap (λ b. cond b (Some e.rights) (extent_rights es q)) (in_run_behind e.page e.count q high)
 
-extent_rights_before : (from : ℕ) (es : List Extent) (q : ℕ) → AreMaximal es → AreFrom from es → q < from → extent_rights es q ≡ None
+pub extent_rights_before : (from : ℕ) (es : List Extent) (q : ℕ) → AreMaximal es → AreFrom from es → q < from → extent_rights es q ≡ None
 extent_rights_before from [] q maximal low h = refl
 extent_rights_before from (e ∷ es) q maximal low h =
     ap (λ b. cond b (Some e.rights) (extent_rights es q)) (in_run_before e.page e.count q (omega arith))
