@@ -7,3 +7,4 @@ pub mod RefusalLaws
 pub mod Accesses
 pub mod Copies
 pub mod Hints
+mod Examples

@@ -11,3 +11,4 @@ pub mod RunLaws
 pub mod Regions
 pub mod RegionChanges
 pub mod RegionBytes
+mod Examples

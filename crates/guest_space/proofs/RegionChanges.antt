@@ -1,20 +1,24 @@
 -- The regions of a space, and of one with more pages, fewer, or other rights.
-use Rattle.std.proofs.Common.{◌≡◌, ℕ, ◌+◌, ◌-◌, ◌<◌, ◌≤◌, min, max, Bool, true, false, cond, nat_lt, nat_le, T, List, [], ◌∷◌, ◌++◌, map, refl, sym, ap, ◌∙◌, subst, arith, Option, Some, None, inl, inr}
+use Rattle.std.proofs.Common.{◌≡◌, ℕ, ◌+◌, ◌-◌, ◌^◌, ◌<◌, ◌≤◌, min, max, Bool, true, false, cond, nat_lt, nat_le, T, List, [], ◌∷◌, ◌++◌, map, refl, sym, ap, ◌∙◌, subst, arith, Option, Some, None, inl, inr}
 use Rattle.std.proofs.lemmas.Bool.{cases_lt}
 use Rattle.std.proofs.lemmas.Bool.Decides.{nat_tests}
+use Rattle.std.proofs.lemmas.List.Elements.{All-nil, All-cons}
+use Rattle.std.proofs.lemmas.Option.{none-some, same_Some}
+use Rattle.std.specs.List.{All}
 use Rattle.std.specs.Option.{is_some, option_map, option_or}
 use Rattle.std.specs.Ordering.{nat_cmp, eq_by_cmp, is_lt}
 use Rattle.std.specs.FinMap.{get, entries, entries_sorted, get-entries}
 use Rattle.std.specs.FinMap.Entries.{find, below_all, is_sorted}
 use Rattle.rv_core.specs.Memory.{Memory}
 use Rattle.guest_space.specs.declared.Extent.{Extent}
-use Rattle.guest_space.specs.Space.{Space, Frame, in_run, page_rights, with_run, without_run, protected, with_memory}
+use Rattle.guest_space.specs.Space.{Space, Frame, IsSpace, in_run, page_rights, with_run, without_run, protected, with_memory}
 use Rattle.guest_space.specs.Run.{first_missing, if_missing}
-use Rattle.guest_space.specs.Regions.{extent_end, AreMaximal, AreRegions, extent_rights, merged, page_extent, regions, pages_before, pages_from, with_extent, without_pages}
+use Rattle.guest_space.specs.Regions.{extent_end, AreMaximal, AreRegions, IsExtentOfProcess, extent_rights, merged, page_extent, regions, pages_before, pages_from, with_extent, without_pages}
 use Rattle.guest_space.proofs.Gets.{get-without_run}
+use Rattle.guest_space.proofs.Spaces.{both}
 use Rattle.guest_space.proofs.FirstSome.{first_some_none_at}
 use Rattle.guest_space.proofs.Filling.{page_rights-with_run, page_rights-protected, page_rights-with_memory}
-use Rattle.guest_space.proofs.Regions.{AreRising, AreRising-weaker, AreFrom, AreFrom-zero, both, merged-maximal, extent_rights-merged, same_extents}
+use Rattle.guest_space.proofs.Regions.{AreRising, AreRising-weaker, AreFrom, AreFrom-zero, AreFrom-before, extent_rights_here, extent_rights_before, extent_rights_behind, merged-maximal, extent_rights-merged, same_extents}
 
 -- ---- the pages one by one
 
@@ -82,6 +86,38 @@ AreRising-maximal from (e ∷ next ∷ es) maximal low = (low, maximal.0, AreRis
 
 rising_regions : (s : Space) → AreRising 0 (regions s)
 rising_regions s = AreRising-maximal 0 (regions s) (AreRegions-regions s).maximal (AreFrom-zero (regions s))
+
+-- each region is of pages that a process may have
+record IsRightOfProcess (q rights : ℕ) : Type 0 where
+  above : 1 ≤ q
+  below : q < 2 ^ 26
+  small : rights < 8
+
+All-extents : (es : List Extent) → AreMaximal es → ((q r : ℕ) → extent_rights es q ≡ Some r → IsRightOfProcess q r) → All IsExtentOfProcess es
+All-extents [] maximal sound = All-nil IsExtentOfProcess
+All-extents (e ∷ es) maximal sound =
+    let some = maximal.0 in
+    let last = e.page + e.count - 1 in
+    let first = sound e.page e.rights (extent_rights_here e es e.page (omega arith) (omega arith)) in
+    let end = sound last e.rights (extent_rights_here e es last (omega arith) (omega arith)) in
+    let above = first.above in
+    let below = end.below in
+    All-cons IsExtentOfProcess e es (record { above = above; below = omega arith; rights = first.small })
+    (All-extents es maximal.2 (λ q r is. elim (cases_lt q (extent_end e)) [
+      | inl low ↦ absurd (none-some r (sym (extent_rights_before (extent_end e) es q maximal.2 (AreFrom-before e es maximal.1) low) ∙ is))
+      | inr past ↦ sound q r (extent_rights_behind e es q past ∙ is)
+    ]))
+
+pub All-regions : (s : Space) → IsSpace s → All IsExtentOfProcess (regions s)
+All-regions s sound =
+    let own = AreRegions-regions s in
+    All-extents (regions s) own.maximal (λ q r is. held q r (get s q) refl (sym (own.rights q) ∙ is))
+  where
+    held : (q r : ℕ) (o : Option Frame) → get s q ≡ o → option_map (λ (f : Frame). f.rights) o ≡ Some r → IsRightOfProcess q r
+    held q r None is e = absurd (none-some r e)
+    held q r (Some f) is e =
+        let frame = sound.frames q f is in
+        record { above = frame.above; below = frame.below; small = subst (λ n. n < 8) (same_Some f.rights r e) frame.rights }
 
 -- ---- parts of regions
 

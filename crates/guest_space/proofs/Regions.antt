@@ -1,10 +1,11 @@
 -- Lists of extents: what joining them keeps, and that the maximal list with given rights is one.
-use Rattle.std.proofs.Common.{◌≡◌, ℕ, ◌+◌, ◌<◌, ◌≤◌, ◌==◌, ◌&&◌, Bool, true, false, cond, List, [], ◌∷◌, refl, sym, ap, ◌∙◌, arith, Some, None, inl, inr}
+use Rattle.std.proofs.Common.{◌≡◌, ℕ, ◌+◌, ◌<◌, ◌≤◌, ◌==◌, ◌&&◌, true, false, cond, List, [], ◌∷◌, refl, sym, ap, ◌∙◌, arith, Some, None, inl, inr}
 use Rattle.std.proofs.lemmas.Bool.{cases_lt, cases_eq, eqb-true}
 use Rattle.std.proofs.lemmas.Bool.Decides.{nat_tests}
 use Rattle.std.proofs.lemmas.Option.{none-some, same_Some}
 use Rattle.guest_space.specs.declared.Extent.{Extent}
 use Rattle.guest_space.specs.Space.{in_run}
+use Rattle.guest_space.proofs.Spaces.{both}
 use Rattle.guest_space.specs.Regions.{extent_end, IsBefore, AreMaximal, extent_rights, joined, merged}
 
 -- extents that have pages and rise from a page on
@@ -38,11 +39,6 @@ IsBefore-two e next [] at same before = tt
 IsBefore-two e next (f ∷ es) at same before =
     let low = before.0 in
     (omega arith, λ here rights. before.1 (omega arith) (sym same ∙ rights))
-
-pub both : (a b : Bool) → (a && b) ≡ true → (a ≡ true) × (b ≡ true)
-both true true is = (refl, refl)
-both true false is = absurd (cc)
-both false b is = absurd (cc)
 
 not_both : (a b c d : ℕ) → ((a == b) && (c == d)) ≡ false → a ≡ b → c ≡ d → ⊥
 not_both a b c d is x y = grind (arith, nat_tests)
@@ -107,13 +103,13 @@ in_run_before page count q low = grind (arith, nat_tests)
 pub in_run_behind : (page count q : ℕ) → page + count ≤ q → in_run page count q ≡ false
 in_run_behind page count q high = grind (arith, nat_tests)
 
-extent_rights_here : (e : Extent) (es : List Extent) (q : ℕ) → e.page ≤ q → q < extent_end e → extent_rights (e ∷ es) q ≡ Some e.rights
+pub extent_rights_here : (e : Extent) (es : List Extent) (q : ℕ) → e.page ≤ q → q < extent_end e → extent_rights (e ∷ es) q ≡ Some e.rights
 extent_rights_here e es q low high = ap (λ b. cond b (Some e.rights) (extent_rights es q)) (in_run_within e.page e.count q low high)
 
-extent_rights_behind : (e : Extent) (es : List Extent) (q : ℕ) → extent_end e ≤ q → extent_rights (e ∷ es) q ≡ extent_rights es q
+pub extent_rights_behind : (e : Extent) (es : List Extent) (q : ℕ) → extent_end e ≤ q → extent_rights (e ∷ es) q ≡ extent_rights es q
 extent_rights_behind e es q high = ap (λ b. cond b (Some e.rights) (extent_rights es q)) (in_run_behind e.page e.count q high)
 
-extent_rights_before : (from : ℕ) (es : List Extent) (q : ℕ) → AreMaximal es → AreFrom from es → q < from → extent_rights es q ≡ None
+pub extent_rights_before : (from : ℕ) (es : List Extent) (q : ℕ) → AreMaximal es → AreFrom from es → q < from → extent_rights es q ≡ None
 extent_rights_before from [] q maximal low h = refl
 extent_rights_before from (e ∷ es) q maximal low h =
     ap (λ b. cond b (Some e.rights) (extent_rights es q)) (in_run_before e.page e.count q (omega arith))

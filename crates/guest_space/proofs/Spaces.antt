@@ -1,5 +1,5 @@
 -- What keeps each page one that a process may have, and each byte below 256.
-use Rattle.std.proofs.Common.{◌≡◌, ℕ, zero, suc, ◌+◌, ◌*◌, ◌/◌, ◌%◌, ◌<◌, ◌==◌, Bool, true, false, cond, List, [], ◌∷◌, length, refl, sym, ap, ◌∙◌, subst, arith, Option, Some, None}
+use Rattle.std.proofs.Common.{◌≡◌, ℕ, zero, suc, ◌+◌, ◌*◌, ◌/◌, ◌%◌, ◌<◌, ◌==◌, ◌&&◌, nat_lt, Bool, true, false, cond, List, [], ◌∷◌, length, refl, sym, ap, ◌∙◌, subst, arith, Option, Some, None}
 use Rattle.std.proofs.lemmas.Bool.Decides.{nat_tests}
 use Rattle.std.proofs.lemmas.List.{length-replicate}
 use Rattle.std.proofs.lemmas.List.Elements.{All-nil, All-cons, All-head, All-tail, All-get_or, All-replicate}
@@ -22,6 +22,25 @@ length-bytes_from m at (suc n) = ap suc (length-bytes_from m (at + 1) n)
 -- each byte of a memory is below 256
 pub record HasBytes (m : Memory) : Type 0 where
   pub at : (a : ℕ) → byte_or_zero (m a) < 256
+
+pub both : (a b : Bool) → (a && b) ≡ true → (a ≡ true) × (b ≡ true)
+both true true is = (refl, refl)
+both true false is = absurd (cc)
+both false b is = absurd (cc)
+
+-- a test that computes
+abbrev pub are_bytes : List ℕ → Bool
+are_bytes [] = true
+are_bytes (byte ∷ bytes) = nat_lt byte 256 && are_bytes bytes
+
+pub All-are_bytes : (bytes : List ℕ) → are_bytes bytes ≡ true → All (λ byte. byte < 256) bytes
+All-are_bytes [] is = All-nil {X = ℕ} (λ byte. byte < 256)
+All-are_bytes (byte ∷ bytes) is =
+    let parts = both (nat_lt byte 256) (are_bytes bytes) is in
+    All-cons (λ b. b < 256) byte bytes (ltb-true parts.0) (All-are_bytes bytes parts.1)
+  where
+    ltb-true : {a b : ℕ} → nat_lt a b ≡ true → a < b
+    ltb-true is = grind (arith, nat_tests)
 
 pub All-bytes_from : (m : Memory) (at n : ℕ) → HasBytes m → All (λ byte. byte < 256) (bytes_from m at n)
 unfolding bytes_from

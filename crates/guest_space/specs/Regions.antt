@@ -1,5 +1,5 @@
 -- The regions of a process: its adjacent pages of equal rights, each run of them as long as it can be.
-use Rattle.std.specs.Prelude.{◌≡◌, ◌≢◌, ℕ, zero, suc, ◌+◌, ◌-◌, ◌*◌, ◌≤◌, ◌==◌, ◌&&◌, if◌then◌else◌, nat_lt, min, max, List, [], ◌∷◌, ◌++◌, map, length, slice_range}
+use Rattle.std.specs.Prelude.{◌≡◌, ◌≢◌, ℕ, zero, suc, ◌+◌, ◌-◌, ◌*◌, ◌^◌, ◌<◌, ◌≤◌, ◌==◌, ◌&&◌, if◌then◌else◌, nat_lt, min, max, List, [], ◌∷◌, ◌++◌, map, length, slice_range}
 use Rattle.std.specs.List.{All}
 use Rattle.std.specs.Ordering.{nat_cmp}
 use Rattle.std.specs.FinMap.{empty, insert, entries}
@@ -55,6 +55,12 @@ regions s = merged (map page_extent (entries s))
 pub record AreRegions (s : Space) (extents : List Extent) : Type 0 where
   pub maximal : AreMaximal extents
   pub rights : (q : ℕ) → extent_rights extents q ≡ page_rights s q
+
+-- An extent that the pages of a process can be.
+pub record IsExtentOfProcess (e : Extent) : Type 0 where
+  pub above : 1 ≤ e.page
+  pub below : extent_end e ≤ 2 ^ 26
+  pub rights : e.rights < 8
 
 -- ---- how regions change
 

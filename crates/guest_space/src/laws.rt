@@ -1,14 +1,16 @@
 ghost use Rattle.std.specs.Prelude.{◌≡◌, ◌↔◌, ◌≤◌, ℕ, List, None};
+ghost use Rattle.std.specs.List.{All};
 ghost use Rattle.rv_core.specs.Memory.{Memory};
 ghost use Rattle.guest_space.specs.declared.Extent.{Extent};
 ghost use Rattle.guest_space.specs.Space.{IsSpace, Space, protected, with_memory, with_run, without_run};
 ghost use Rattle.guest_space.specs.Run.{first_missing};
-ghost use Rattle.guest_space.specs.Regions.{AreRegions, AreRegionsWithBytes, regions, regions_with_bytes, space_from, with_extent, without_pages};
+ghost use Rattle.guest_space.specs.Regions.{AreRegions, AreRegionsWithBytes, IsExtentOfProcess, regions, regions_with_bytes, space_from, with_extent, without_pages};
 
 /// The regions of a space are the one list of extents that is maximal and has just its pages, each with its
-/// rights.
+/// rights; they are of pages that a process may have where the space is.
 pub fn one_list_of_regions()
-    ensures { (s : Space) (extents : List Extent) → (AreRegions s extents ↔ (extents ≡ regions s)) }
+    ensures only { (s : Space) (extents : List Extent) → (AreRegions s extents ↔ (extents ≡ regions s)) }
+    ensures of_process { (s : Space) → IsSpace s → All IsExtentOfProcess (regions s) }
 {}
 
 /// The regions of a space after its pages change, from those before.
