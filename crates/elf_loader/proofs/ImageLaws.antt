@@ -4,6 +4,7 @@ use Rattle.std.specs.List.{range_with_len, AllByRecursion}
 use Rattle.std.proofs.lemmas.List.{length-map}
 use Rattle.guest_space.specs.declared.Extent.{Extent}
 use Rattle.guest_space.specs.Regions.{extent_end, merged}
+use Rattle.guest_space.proofs.Regions.{same_extents}
 use Rattle.elf_loader.specs.declared.runs.Layout.{Layout}
 use Rattle.elf_loader.specs.declared.ElfError.{ElfError}
 use Rattle.elf_loader.specs.declared.pages.Page.{Page}
@@ -13,7 +14,7 @@ use Rattle.elf_loader.specs.Segments.{is_touched, touches, page_rights, end_page
 use Rattle.elf_loader.specs.Refusal.{header_refusals, program_refusal, pages, refusal}
 use Rattle.elf_loader.specs.Image.{page_extent, layout_of, bytes_at, page_bytes, page_count, extent_of, run_of, with_bytes, without_bytes, program_of, laid_out, loaded, IsLayout, IsImage, IsRunOfProcess, FitsProcess, AreWhole}
 use Rattle.elf_loader.proofs.Below.{any_below-some}
-use Rattle.elf_loader.proofs.ExtentLists.{AreMaximal-merged, extent_rights-merged, sum_by-merged, each-single, each-merged}
+use Rattle.elf_loader.proofs.ExtentLists.{AreMaximal-merged, extent_rights-merged, sum_by-merged, sum_by-single, each-single, each-merged}
 use Rattle.elf_loader.proofs.MemoryBytes.{length-bytes_at, bytes_at-part}
 use Rattle.elf_loader.proofs.Refusals.{header_refusals-each, IsPlaced-from_none, end_page-small, page_rights-small, program_refusal-parts, refusal-parts}
 use Rattle.elf_loader.proofs.TouchedPages.{is_touched-below_end, is_touched-from_end, touches-parts}
@@ -69,6 +70,14 @@ module _ (file : List ℕ) where
         entry = refl;
         end = refl;
       }
+
+  -- no other layout has these runs
+  pub layout_of-only : (layout : Layout) → IsLayout file layout → layout ≡ layout_of file
+  layout_of-only layout is =
+      let own = IsLayout-layout_of in
+      let runs : layout.runs ≡ (layout_of file).runs =
+      same_extents layout.runs (layout_of file).runs is.maximal own.maximal (λ page. is.rights page ∙ sym (own.rights page)) in
+      λ i. record { entry = (is.entry ∙ sym own.entry) i; runs = runs i; end = (is.end ∙ sym own.end) i }
 
   -- Runs with their bytes
 
@@ -149,7 +158,7 @@ module _ (file : List ℕ) where
     pub FitsProcess-layout_of : program_refusal file ≡ None → FitsProcess (layout_of file)
     unfolding layout_of pages
     FitsProcess-layout_of whole =
-        let total = sum_by-merged (is_touched file) (page_rights file) 0 (end_page file) in
+        let total = sum_by-merged (map (page_extent file) (filter (is_touched file) (range_with_len 0 (end_page file)))) ∙ sum_by-single (is_touched file) (page_rights file) (filter (is_touched file) (range_with_len 0 (end_page file))) in
         let parts = program_refusal-parts file whole in
         record {
           runs = each-merged IsRunOfProcess IsRunOfProcess-joins _ (each-single (is_touched file) (page_rights file) IsRunOfProcess IsRunOfProcess-page (end_page file) 0);

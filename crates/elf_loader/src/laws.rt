@@ -3,14 +3,16 @@ ghost use Rattle.std.specs.Int.{bit_at};
 ghost use Rattle.std.specs.List.{AllByRecursion};
 ghost use Rattle.elf_loader.specs.Fields.{e_phnum, program_header};
 ghost use Rattle.elf_loader.specs.Segments.{covers, segment_byte, touches, segment_rights, page_rights, byte_of};
+ghost use Rattle.elf_loader.specs.declared.runs.Layout.{Layout};
 ghost use Rattle.elf_loader.specs.Refusal.{refusal};
 ghost use Rattle.elf_loader.specs.Image.{FitsProcess, IsImage, IsLayout, bytes_at, layout_of, program_of, without_bytes};
 
-/// Each file has one image in memory, whose layout is the file's, and the layout of a file that isn't refused
+/// Each file has one layout, its image in memory lies as that says, and the layout of a file that isn't refused
 /// fits a process.
 pub fn one_image()
     ensures image { (file : List ℕ) → IsImage file (program_of file) }
     ensures layout { (file : List ℕ) → IsLayout file (layout_of file) }
+    ensures only { (file : List ℕ) (layout : Layout) → IsLayout file layout → layout ≡ layout_of file }
     ensures same { (file : List ℕ) → without_bytes (program_of file) ≡ layout_of file }
     ensures fits { (file : List ℕ) → refusal file ≡ None → FitsProcess (layout_of file) }
 {}
