@@ -15,7 +15,7 @@ use Rattle.abi_calls.specs.declared.limits.TheConstants.{MOST_WAITS}
 use Rattle.abi_calls.specs.declared.object.Object.TheVariants.{Process, Thread, Event, Stream, ReadEnd, WriteEnd}
 use Rattle.abi_calls.specs.Objects.{Object, Objects, object_at, running, is_some_thread, mentions, IsFresh}
 use Rattle.abi_calls.specs.Sound.{IsSound, is_sound_wait, can_be_awaited}
-use Rattle.abi_calls.proofs.NumberMaps.{get_none}
+use Rattle.bas_items.proofs.NumberMaps.{get-empty}
 
 -- A thread with its process, which runs.
 pub record RunsIn (o : Objects) (t p : ℕ) (context : Context) (space : Space) : Type 0 where
@@ -80,4 +80,4 @@ live_positive o (suc h) sound live = omega arith
 
 -- Without objects nothing stands anywhere.
 pub AreEmpty-no_objects : (o : Objects) → IsSound o → o.live ≡ empty → AreEmpty o.lists
-AreEmpty-no_objects o sound none = AreEmpty-nowhere o.lists (λ t. standings-no_thread o t sound (ap (λ m. is_some_thread (get {R = nat_cmp} m t)) none ∙ ap is_some_thread (get_none t)))
+AreEmpty-no_objects o sound none = AreEmpty-nowhere o.lists (λ t. standings-no_thread o t sound (ap (λ m. is_some_thread (get {R = nat_cmp} m t)) none ∙ ap is_some_thread (get-empty t)))

@@ -1,4 +1,3 @@
-pub mod NumberMaps
 pub mod Counts
 pub mod Effects
 pub mod PositionsKept

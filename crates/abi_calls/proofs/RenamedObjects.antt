@@ -14,7 +14,7 @@ use Rattle.std.proofs.Common.{arith, refl, sym, ap, ◌∙◌, subst, eqb-true, 
 use Rattle.std.proofs.lemmas.List.Sums.{sum_by-cons}
 use Rattle.abi_calls.specs.Objects.{Object, Objects, Live, object_at, with_object, some_object, number_of}
 use Rattle.abi_calls.specs.Renaming.{Renaming, renamed_object, renamed_entry, renamed_live, renamed_objects}
-use Rattle.abi_calls.proofs.NumberMaps.{get_none, get_set, same_numbers}
+use Rattle.bas_items.proofs.NumberMaps.{get-empty, get-insert, same_numbers}
 use Rattle.abi_calls.proofs.Counts.{count_set_new}
 
 -- a number is the new one of k exactly where the old one is k
@@ -90,9 +90,9 @@ module _ (ρ : Renaming) where
   at_cons k v look (Some q) = mapped_if (q == k) v (look q)
 
   get_entries : (es : List (ℕ × Object)) (u : ℕ) → get {R = nat_cmp} (from_entries (map (renamed_entry ρ.to) es)) u ≡ at_back ρ.to (λ q. find nat_cmp q es) (ρ.back u)
-  get_entries [] u = get_none u ∙ sym (at_none (ρ.back u))
+  get_entries [] u = get-empty u ∙ sym (at_none (ρ.back u))
   get_entries (e ∷ es) u =
-      get_set (from_entries (map (renamed_entry ρ.to) es)) (ρ.to e.0) (renamed_object ρ.to e.1) u
+      get-insert (from_entries (map (renamed_entry ρ.to) es)) (ρ.to e.0) (renamed_object ρ.to e.1) u
       ∙ (λ i. cond (test-renamed e.0 u i) (Some (renamed_object ρ.to e.1)) (get_entries es u i))
       ∙ at_cons e.0 e.1 (λ q. find nat_cmp q es) (ρ.back u)
       ∙ ap (λ (look : ℕ → Option Object). at_back ρ.to look (ρ.back u)) (λ i q. cond (sym (unsigned_tied q e.0) i) (Some e.1) (find nat_cmp q es))
@@ -106,10 +106,10 @@ module _ (ρ : Renaming) where
 
   insert-renamed : (m : Live) (k : ℕ) (v : Object) → insert (renamed_live ρ.to m) (ρ.to k) (renamed_object ρ.to v) ≡ renamed_live ρ.to (insert m k v)
   insert-renamed m k v = same_numbers _ _ (λ u.
-      get_set (renamed_live ρ.to m) (ρ.to k) (renamed_object ρ.to v) u
+      get-insert (renamed_live ρ.to m) (ρ.to k) (renamed_object ρ.to v) u
       ∙ (λ i. cond (test-renamed k u i) (Some (renamed_object ρ.to v)) (get-renamed m u i))
       ∙ at_cons k v (get {R = nat_cmp} m) (ρ.back u)
-      ∙ ap (λ (look : ℕ → Option Object). at_back ρ.to look (ρ.back u)) (λ i q. sym (get_set m k v q) i)
+      ∙ ap (λ (look : ℕ → Option Object). at_back ρ.to look (ρ.back u)) (λ i q. sym (get-insert m k v q) i)
       ∙ sym (get-renamed (insert m k v) u))
 
   pub with_object-renamed : (o : Objects) (h : ℕ) (x : Object) → with_object (renamed_objects ρ.to o) (ρ.to h) (renamed_object ρ.to x) ≡ renamed_objects ρ.to (with_object o h x)
@@ -124,7 +124,7 @@ module _ (ρ : Renaming) where
         let parts = parted (below_all nat_cmp e.0 es) (is_sorted nat_cmp es) sorted in
         let none : find nat_cmp e.0 es ≡ None = below_none e.0 es parts.0 in
         let new : get {R = nat_cmp} (from_entries (map (renamed_entry ρ.to) es)) (ρ.to e.0) ≡ None =
-            get_entries es (ρ.to e.0) ∙ ap (at_back ρ.to (λ q. find nat_cmp q es)) (ρ.there e.0) ∙ ap (option_map (renamed_object ρ.to)) none in
+        get_entries es (ρ.to e.0) ∙ ap (at_back ρ.to (λ q. find nat_cmp q es)) (ρ.there e.0) ∙ ap (option_map (renamed_object ρ.to)) none in
         let old : get {R = nat_cmp} (from_entries es) e.0 ≡ None = get-from_entries nat_cmp_total es e.0 ∙ none in
         count_set_new test (from_entries (map (renamed_entry ρ.to) es)) (ρ.to e.0) (renamed_object ρ.to e.1) new
         ∙ (λ i. count_entries es parts.1 i + cond (same e.1 i) 1 0)

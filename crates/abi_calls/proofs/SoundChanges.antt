@@ -19,7 +19,7 @@ use Rattle.abi_calls.specs.Objects.{Object, Objects, object_at, running, is_proc
 use Rattle.abi_calls.specs.Threads.{with_thread}
 use Rattle.abi_calls.specs.Processes.{is_acceptable}
 use Rattle.abi_calls.specs.Sound.{can_be_awaited, is_sound_wait, IsSoundObject, IsSound}
-use Rattle.abi_calls.proofs.NumberMaps.{get_set, get_kept, get_none, get_other}
+use Rattle.bas_items.proofs.NumberMaps.{get-insert, get-retain_keys, get-empty, get-insert-other}
 use Rattle.abi_calls.proofs.Counts.{count_empty, count_kept, list_any-get}
 
 -- ---- no objects
@@ -27,7 +27,7 @@ use Rattle.abi_calls.proofs.Counts.{count_empty, count_kept, list_any-get}
 -- Without objects and threads, and with settings that a host takes, a world is sound.
 pub IsSound-no_objects : (o : Objects) → o.live ≡ empty → o.lists ≡ no_threads → is_acceptable o.settings ≡ true → IsSound o
 IsSound-no_objects o live lists settings =
-    let none : (h : ℕ) → object_at o h ≡ None = λ h. ap (λ m. get {R = nat_cmp} m h) live ∙ get_none h in
+    let none : (h : ℕ) → object_at o h ≡ None = λ h. ap (λ m. get {R = nat_cmp} m h) live ∙ get-empty h in
     let processes : number_of is_process o.live ≡ 0 = ap (number_of is_process) live ∙ count_empty is_process in
     let threads : number_of is_thread o.live ≡ 0 = ap (number_of is_thread) live ∙ count_empty is_thread in
     record {
@@ -110,7 +110,7 @@ pub record Fits (o : Objects) (h : ℕ) (x : Object) : Type 0 where
 
 -- What holds at a number before, and of the new object, holds after.
 at_number : (Q : Option Object → Type 0) (o : Objects) (h : ℕ) (x : Object) (k : ℕ) → (k ≡ h → Q (Some x)) → Q (object_at o k) → Q (object_at (with_object o h x) k)
-at_number Q o h x k here there = subst Q (sym (get_set o.live h x k))
+at_number Q o h x k here there = subst Q (sym (get-insert o.live h x k))
     (elim (k == h) as (λ b. (k == h) ≡ b → Q (cond b (Some x) (object_at o k))) [
       | true ↦ λ same. here (eqb-true k h same)
       | false ↦ λ other. there
@@ -152,8 +152,8 @@ placed o h x l sound fits standing same = record {
   standing = standing;
   waits = ap (list_all (is_sound_wait (with_object o h x))) same
       ∙ list_all-weaker (is_sound_wait o) (is_sound_wait (with_object o h x)) (is_sound_wait-kept o (with_object o h x) (awaited_kept o h x fits)) o.lists.waiting sound.waits;
-  objects = λ k y is. same_objects (with_object o h x) l o.positions o.settings y (objects_with o h x sound fits k y (k == h) (sym (get_set o.live h x k) ∙ is));
-  positive = get_other o.live h x 0 (λ zero. absurd (let p = fits.positive in omega arith)) ∙ sound.positive;
+  objects = λ k y is. same_objects (with_object o h x) l o.positions o.settings y (objects_with o h x sound fits k y (k == h) (sym (get-insert o.live h x k) ∙ is));
+  positive = get-insert-other o.live h x 0 (λ zero. absurd (let p = fits.positive in omega arith)) ∙ sound.positive;
   processes = fits.processes;
   threads = fits.threads;
   settings = sound.settings;
@@ -179,7 +179,7 @@ IsSound-with_thread o h p context sound fits no_thread =
     flipped a b e = grind arith
 
     at_number_or : (Q : Option Object → Type 0) (o : Objects) (h : ℕ) (x : Object) (k : ℕ) → (k ≡ h → Q (Some x)) → ((h == k) ≡ false → Q (object_at o k)) → Q (object_at (with_object o h x) k)
-    at_number_or Q o h x k here there = subst Q (sym (get_set o.live h x k))
+    at_number_or Q o h x k here there = subst Q (sym (get-insert o.live h x k))
         (elim (k == h) as (λ b. (k == h) ≡ b → Q (cond b (Some x) (object_at o k))) [
           | true ↦ λ same. here (eqb-true k h same)
           | false ↦ λ other. there (flipped k h other)
@@ -188,7 +188,7 @@ IsSound-with_thread o h p context sound fits no_thread =
 -- ---- numbers that end
 
 pub object_at-without_handles : (o : Objects) (ends : ℕ → Bool) (k : ℕ) → object_at (without_handles o ends) k ≡ cond (not (ends k)) (object_at o k) None
-object_at-without_handles o ends k = get_kept o.live (λ j. not (ends j)) k
+object_at-without_handles o ends k = get-retain_keys o.live (λ j. not (ends j)) k
 
 pub object_at-left : (o : Objects) (ends : ℕ → Bool) (k : ℕ) → ends k ≡ false → object_at (without_handles o ends) k ≡ object_at o k
 object_at-left o ends k stays = object_at-without_handles o ends k ∙ ap (λ b. cond (not b) (object_at o k) None) stays
@@ -232,7 +232,7 @@ home_left o ends idle p runs =
 pipe_left : (o : Objects) (ends : ℕ → Bool) (pipe : ℕ) → has_end (retain_keys o.live (λ k. not (ends k))) pipe ≡ true → is_some (get {R = nat_cmp} o.pipes pipe) ≡ true
     → is_some (get {R = nat_cmp} (without_handles o ends).pipes pipe) ≡ true
 pipe_left o ends pipe end there =
-    ap is_some (get_kept o.pipes (has_end (retain_keys o.live (λ k. not (ends k)))) pipe ∙ ap (λ b. cond b (get {R = nat_cmp} o.pipes pipe) None) end) ∙ there
+    ap is_some (get-retain_keys o.pipes (has_end (retain_keys o.live (λ k. not (ends k)))) pipe ∙ ap (λ b. cond b (get {R = nat_cmp} o.pipes pipe) None) end) ∙ there
 
 object_left : (o : Objects) (ends : ℕ → Bool) → ((k : ℕ) → ends k ≡ true → running (object_at o k) ≡ None) → (h : ℕ) (x : Object) → object_at (without_handles o ends) h ≡ Some x → IsSoundObject o x → IsSoundObject (without_handles o ends) x
 object_left o ends idle h x is sound =

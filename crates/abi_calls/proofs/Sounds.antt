@@ -34,7 +34,7 @@ use Rattle.abi_calls.specs.Processes.{without_threads}
 use Rattle.abi_calls.specs.Turn.{is_due, with_due_ready, with_turn, idle_turn, pick_of, with_pick, with_run_of, run_end, run_in, run_thread, turn_of_pick, world_turn}
 use Rattle.abi_calls.specs.Sound.{can_be_awaited, is_sound_name, is_sound_wait, IsSoundObject, IsSound, HasBytes}
 use Rattle.abi_calls.specs.Abi.{Abi, Answers, IsFreeChoice}
-use Rattle.abi_calls.proofs.NumberMaps.{get_other}
+use Rattle.bas_items.proofs.NumberMaps.{get-insert-other}
 use Rattle.abi_calls.proofs.Counts.{one_at, one_of, count_set, count_set_new}
 use Rattle.abi_calls.proofs.Facts.{RunsIn, live_positive, ready_thread}
 use Rattle.abi_calls.proofs.Effects.{Effects, has-Abi}
@@ -196,7 +196,7 @@ IsSound-with_fresh_thread : (o : Objects) (h p : ℕ) (context : Context) (s : S
     → IsSound (with_thread o h p context)
 IsSound-with_fresh_thread o h p context s sound fresh runs room =
     let apart = λ (same : p ≡ h). absurd (let e : None ≡ Some s = ap running (sym fresh.free) ∙ ap (λ q. running (object_at o q)) (sym same) ∙ runs in cc) in
-    let home : is_some (running (object_at (with_object o h (Thread p context)) p)) ≡ true = ap (λ y. is_some (running y)) (get_other o.live h (Thread p context) p apart) ∙ ap is_some runs in
+    let home : is_some (running (object_at (with_object o h (Thread p context)) p)) ≡ true = ap (λ y. is_some (running y)) (get-insert-other o.live h (Thread p context) p apart) ∙ ap is_some runs in
     let bound = sound.processes in
     IsSound-with_thread o h p context sound (fits_fresh o h (Thread p context) sound fresh home (omega arith) (omega arith)) (ap is_some_thread fresh.free)
 
@@ -216,7 +216,7 @@ IsSound-with_registers o t p old new sound thread =
       positive = there_positive o t (Thread p old) sound thread;
       awaited = λ is. absurd (let e : false ≡ true = ap can_be_awaited (sym thread) ∙ is in cc);
       residents = λ r context is. absurd (let e : false ≡ true = ap (λ y. is_some (running y)) (sym thread) ∙ sound.objects r (Thread t context) is in cc);
-      itself = ap (λ y. is_some (running y)) (get_other o.live t x p apart) ∙ runs;
+      itself = ap (λ y. is_some (running y)) (get-insert-other o.live t x p apart) ∙ runs;
       processes = omega arith;
       threads = omega arith;
     }) (sym (ap is_some_thread thread))
@@ -302,7 +302,7 @@ idle_sound o sound = elim (list_any (λ (w : Waiting). is_some w.deadline) o.lis
 IsSound-with_run_of : (o : Objects) (t p : ℕ) (context : Context) (s : Space) (run : Run) → IsSound o → RunsIn o t p context s → AreSoundPages run.space → IsSound (with_run_of o t p run)
 IsSound-with_run_of o t p context s run sound runs pages =
     let mid = with_pages o p run.space in
-    let thread : object_at mid t ≡ Some (Thread p context) = get_other o.live p (Process run.space None) t (home_apart o t p context s runs) ∙ runs.thread in
+    let thread : object_at mid t ≡ Some (Thread p context) = get-insert-other o.live p (Process run.space None) t (home_apart o t p context s runs) ∙ runs.thread in
     IsSound-with_registers mid t p context run.context (IsSound-with_pages o p s run.space sound runs.process pages) thread
 
 -- The thread left the ready list, and joins it again or is current.

@@ -16,7 +16,7 @@ use Rattle.abi_calls.specs.Objects.{Objects, object_at, running}
 use Rattle.abi_calls.specs.Sound.{IsSound}
 use Rattle.abi_calls.specs.Turn.{world_turn, turn_of_pick, run_thread, run_in, run_answer, run_end, with_run_of, with_pick, pick_of, with_turn, with_due_ready, idle_turn}
 use Rattle.std.specs.FinMap.{insert}
-use Rattle.abi_calls.proofs.NumberMaps.{get_same, get_other}
+use Rattle.bas_items.proofs.NumberMaps.{get-insert-same, get-insert-other}
 use Rattle.abi_calls.proofs.Facts.{RunsIn, Home, ready_thread}
 
 -- Where no thread stands at the picked place, a turn is idle or stuck.
@@ -82,8 +82,8 @@ pub ran_runs : (o : Objects) (t p : ℕ) (run : Run) → t ≢ p → RunsIn (wit
 ran_runs o t p run apart =
     let mid = insert o.live p (Process run.space None) in
     record {
-      thread = get_same mid t (Thread p run.context);
-      process = ap running (get_other mid t (Thread p run.context) p (λ same. apart (sym same)) ∙ get_same o.live p (Process run.space None));
+      thread = get-insert-same mid t (Thread p run.context);
+      process = ap running (get-insert-other mid t (Thread p run.context) p (λ same. apart (sym same)) ∙ get-insert-same o.live p (Process run.space None));
     }
 
 -- The positions after a turn, by how it ends.

@@ -32,7 +32,7 @@ use Rattle.abi_calls.specs.Processes.{close_row, process_exit_row, is_running, w
 use Rattle.abi_calls.specs.Turn.{world_turn, with_pick, pick_of, run_thread, run_in, run_answer, with_due_ready, is_due, is_signalled_object, with_turn}
 use Rattle.abi_calls.specs.Abi.{Abi, answer, new_number}
 use Rattle.abi_calls.proofs.Counts.{count_empty}
-use Rattle.abi_calls.proofs.NumberMaps.{get_none, get_same, get_other}
+use Rattle.bas_items.proofs.NumberMaps.{get-empty, get-insert-same, get-insert-other}
 
 -- ---- a process: its first page, other rights, what is read of it, and its exit
 
@@ -41,7 +41,7 @@ allocate_page_zero w p s r runs = ap (λ x. on_objects w (memory_allocate_row w.
 
 none_held : first_held empty 1 1 ≡ None
 unfolding first_some
-none_held = ap (λ (x : Option Frame). option_or (if is_some x then Some 1 else None) None) (get_none 1)
+none_held = ap (λ (x : Option Frame). option_or (if is_some x then Some 1 else None) None) (get-empty 1)
 
 allocate_page_one : (w : World) (p : ℕ) (r : Reply) → running (object_at w.objects p) ≡ Some empty →
     answer w (MemoryAllocate p 1 1 3) r ≡ (Done, with_objects w (with_pages w.objects p (with_run empty 1 1 3)))
@@ -53,7 +53,7 @@ allocate_page_one w p r runs =
 
 missing_one : first_missing empty 1 1 ≡ Some 1
 unfolding first_some
-missing_one = ap (λ (x : Option Frame). option_or (if is_some x then None else Some 1) None) (get_none 1)
+missing_one = ap (λ (x : Option Frame). option_or (if is_some x then None else Some 1) None) (get-empty 1)
 
 protect_missing : (w : World) (p : ℕ) (r : Reply) → running (object_at w.objects p) ≡ Some empty → answer w (MemoryProtect p 1 1 3) r ≡ (BadAddress, w)
 protect_missing w p r runs =
@@ -205,7 +205,7 @@ two_ready = record resting { live = insert one_there 3 (Thread 1 start); lists =
 
 -- The tape's word 1 picks thread 3, whose process has nothing at the address 0: an instruction access fault there.
 nothing_fetched : fetched (memory_of empty) 0 ≡ None
-nothing_fetched = ap (λ (x : Option Frame). above (byte_if 4 (cell_in x 0)) (number_at (memory_of empty) 4 1 3)) (get_none 0)
+nothing_fetched = ap (λ (x : Option Frame). above (byte_if 4 (cell_in x 0)) (number_at (memory_of empty) 4 1 3)) (get-empty 0)
 
 abbrev fault : Reached
 fault = record { context = start; memory = memory_of empty; trap = Some (1, 0) }
@@ -216,8 +216,8 @@ first_run = ap (λ word. go_on (instructions 0) start (memory_of empty) (execute
 
 picked_runs : world_turn two_ready ≡ run_answer (with_pick two_ready 1) 3 1 (run_space 1 start empty)
 picked_runs =
-    ap (run_thread (with_pick two_ready 1) 3) (get_same one_there 3 (Thread 1 start))
-    ∙ ap (λ x. run_in (with_pick two_ready 1) 3 1 start (running x)) (get_other one_there 3 (Thread 1 start) 1 (λ same. absurd (omega arith)) ∙ get_other process_there 2 (Thread 1 start) 1 (λ same. absurd (omega arith)) ∙ get_same empty 1 (Process empty None))
+    ap (run_thread (with_pick two_ready 1) 3) (get-insert-same one_there 3 (Thread 1 start))
+    ∙ ap (λ x. run_in (with_pick two_ready 1) 3 1 start (running x)) (get-insert-other one_there 3 (Thread 1 start) 1 (λ same. absurd (omega arith)) ∙ get-insert-other process_there 2 (Thread 1 start) 1 (λ same. absurd (omega arith)) ∙ get-insert-same empty 1 (Process empty None))
 
 turn_by_tape : (world_turn two_ready).0 ≡ Exception (record { process = 1; thread = 3; cause = 1; value = 0; context = start })
 turn_by_tape = ap (λ x. x.0) (picked_runs ∙ ap (λ run. run_answer (with_pick two_ready 1) 3 1 (ran_from empty run)) first_run)
@@ -274,13 +274,13 @@ abbrev three_events : Objects
 three_events = record resting { live = events; lists = record no_threads { waiting = waits 9 (6 ∷ []) None ∷ waits 2 (6 ∷ 5 ∷ []) None ∷ waits 3 (0 ∷ []) None ∷ [] } }
 
 at_zero : object_at three_events 0 ≡ None
-at_zero = get_other (insert empty 5 (Event true)) 6 (Event false) 0 (λ same. absurd (omega arith)) ∙ get_other empty 5 (Event true) 0 (λ same. absurd (omega arith)) ∙ get_none 0
+at_zero = get-insert-other (insert empty 5 (Event true)) 6 (Event false) 0 (λ same. absurd (omega arith)) ∙ get-insert-other empty 5 (Event true) 0 (λ same. absurd (omega arith)) ∙ get-empty 0
 
 at_five : object_at three_events 5 ≡ Some (Event true)
-at_five = get_other (insert empty 5 (Event true)) 6 (Event false) 5 (λ same. absurd (omega arith)) ∙ get_same empty 5 (Event true)
+at_five = get-insert-other (insert empty 5 (Event true)) 6 (Event false) 5 (λ same. absurd (omega arith)) ∙ get-insert-same empty 5 (Event true)
 
 at_six : object_at three_events 6 ≡ Some (Event false)
-at_six = get_same (insert empty 5 (Event true)) 6 (Event false)
+at_six = get-insert-same (insert empty 5 (Event true)) 6 (Event false)
 
 -- those that are due, by which of the three are
 ready_by : Bool → Bool → Bool → List Waiting
@@ -309,6 +309,6 @@ second_world = with_objects first_world (with_object resting 1 (Process empty No
 
 first_process : Abi first_world ProcessCreate (Handle 1) second_world
 first_process = record {
-  choice = record { positive = omega arith; free = get_none 1; unlisted = refl };
+  choice = record { positive = omega arith; free = get-empty 1; unlisted = refl };
   row = ap (λ n. on_objects first_world (if nat_le 16 n then (NoRoom, resting) else (Handle 1, with_object resting 1 (Process empty None)))) (count_empty is_process);
 }

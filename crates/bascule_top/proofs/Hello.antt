@@ -20,7 +20,7 @@ use Rattle.guest_space.proofs.Cells.{with_memory_same}
 use Rattle.bas_edge.specs.Files.{file_of}
 use Rattle.bas_names.specs.declared.StreamName.TheVariants.{ConOut, ConErr}
 use Rattle.abi_calls.specs.World.{Contents}
-use Rattle.abi_calls.proofs.NumberMaps.{get_same, get_other}
+use Rattle.bas_items.proofs.NumberMaps.{get-insert-same, get-insert-other}
 use Rattle.mono_model.specs.Machine.{Mono, Process, Thread, Description, process_at, thread_at, with_process, with_thread, exit_code, code_in, exited}
 use Rattle.mono_model.specs.Calls.{Caller, served, finished, ended, description_of, described_in, described_by, writable, write_to, write_unless, memory_in}
 use Rattle.mono_model.specs.Program.{headers, is_plain, plain_program}
@@ -170,11 +170,11 @@ turn_trapped m s cx cx' cause value is run =
 -- ---- the system calls
 
 output_descriptor : get {R = nat_cmp} console_descriptors 1 ≡ Some 2
-output_descriptor = get_other (insert (insert empty 2 3) 1 2) 0 1 1 (λ e. omega arith) ∙ get_same (insert empty 2 3) 1 2
+output_descriptor = get-insert-other (insert (insert empty 2 3) 1 2) 0 1 1 (λ e. omega arith) ∙ get-insert-same (insert empty 2 3) 1 2
 
 output_description : get {R = nat_cmp} console_descriptions 2 ≡ Some (record { stream = ConOut; access = 2 })
 output_description =
-    get_other _ 1 _ 2 (λ e. omega arith) ∙ get_same (insert {R = nat_cmp} empty 3 (record { stream = ConErr; access = 2 })) 2 (record { stream = ConOut; access = 2 })
+    get-insert-other _ 1 _ 2 (λ e. omega arith) ∙ get-insert-same (insert {R = nat_cmp} empty 3 (record { stream = ConErr; access = 2 })) 2 (record { stream = ConOut; access = 2 })
 
 -- write(1, the text, 3)
 write_served : (m : Mono) (s : Space) → process_at m 1 ≡ Some (first_process s) → m.descriptions ≡ console_descriptions → HoldsHello (memory_of s)
@@ -209,22 +209,22 @@ module _ (x : Contents) (s : Space) (space : IsSpace s) (holds : HoldsHello (mem
   begins_ready = record {
     settings = refl;
     ready = refl;
-    thread = get_same empty 1 (first_thread (registers 0x10078 0 0 0 0));
-    process = get_same empty 1 (first_process s);
+    thread = get-insert-same empty 1 (first_thread (registers 0x10078 0 0 0 0));
+    process = get-insert-same empty 1 (first_process s);
     descriptions = refl;
   }
 
   first_turn : turn_of begins ≡ has_written
   first_turn =
       turn_trapped begins s (registers 0x10078 0 0 0 0) (registers 0x1008c 1 0x1009c 3 64) 8 0 begins_ready (run_unwritten 1000 (registers 0x10078 0 0 0 0) (registers 0x1008c 1 0x1009c 3 64) s (Some (8, 0)) space (up_to_write (memory_of s) holds))
-      ∙ write_served at_write s (get_same begins.processes 1 (first_process s)) refl holds
+      ∙ write_served at_write s (get-insert-same begins.processes 1 (first_process s)) refl holds
 
   written_ready : IsReady has_written s (registers 0x10090 3 0x1009c 3 64)
   written_ready = record {
     settings = refl;
     ready = refl;
-    thread = get_same at_write.threads 1 (first_thread (registers 0x10090 3 0x1009c 3 64));
-    process = get_same begins.processes 1 (first_process s);
+    thread = get-insert-same at_write.threads 1 (first_thread (registers 0x10090 3 0x1009c 3 64));
+    process = get-insert-same begins.processes 1 (first_process s);
     descriptions = refl;
   }
 
@@ -234,7 +234,7 @@ module _ (x : Contents) (s : Space) (space : IsSpace s) (holds : HoldsHello (mem
       (run_unwritten 1000 (registers 0x10090 3 0x1009c 3 64) (registers 0x10098 0 0x1009c 3 93) s (Some (8, 0)) space (up_to_exit (memory_of s) holds))
 
   has_code : exit_code has_exited 1 ≡ Some 0
-  has_code = ap code_in (get_same at_exit.processes 1 (exited 0))
+  has_code = ap code_in (get-insert-same at_exit.processes 1 (exited 0))
 
   some_ready : (let ready : List ℕ = 1 ∷ [] in ready ≢ [])
   some_ready e = cc

@@ -24,7 +24,7 @@ use Rattle.abi_calls.specs.Abi.{Abi, answer, object_row, is_outside, is_stream}
 use Rattle.abi_calls.specs.Sound.{IsSound, HasBytes, is_sound_name}
 use Rattle.bas_items.proofs.NumberMaps.{get-empty, retain_keys-all, retain_keys-others}
 use Rattle.abi_calls.proofs.Facts.{fresh_number}
-use Rattle.abi_calls.proofs.Sounds.{IsSound-Abi, IsSound-with_new}
+use Rattle.abi_calls.proofs.Sounds.{IsSound-Abi, IsSound-with_stream}
 use Rattle.host_objects.specs.Handles.{Adds}
 use Rattle.host_objects.specs.System.{world_lists}
 use Rattle.host_objects.specs.Rows.{Row}
@@ -147,5 +147,5 @@ call_sound o o' call (Ok reply) sound bytes inside row same = row_sound o o' cal
 call_sound o o' call (Err e) sound bytes inside row same = subst IsSound (sym same) sound
 
 pub stream_sound : {E : Type 0} (o : Objects) (live' : Live) (name : StreamName) (r : Result ℕ E) → IsSound o → is_sound_name name ≡ true → IfOk r (Adds o.live (Stream name) live') → OnErr r (live' ≡ o.live) → IsSound (record o { live = live' })
-stream_sound o live' name (Ok h) sound named adds same = subst {A = Live} (λ m. IsSound (record o { live = m })) (sym adds.now) (IsSound-with_new o h (Stream name) sound (fresh_added o live' _ h sound adds) named refl refl refl)
+stream_sound o live' name (Ok h) sound named adds same = subst {A = Live} (λ m. IsSound (record o { live = m })) (sym adds.now) (IsSound-with_stream o h name sound (fresh_added o live' _ h sound adds) named)
 stream_sound o live' name (Err e) sound named adds same = subst {A = Live} (λ m. IsSound (record o { live = m })) (sym same) sound

@@ -13,7 +13,7 @@ use Rattle.guest_space.specs.Space.{Space}
 use Rattle.abi_calls.specs.declared.object.Object.TheVariants.{Thread}
 use Rattle.abi_calls.specs.Objects.{Live}
 use Rattle.abi_calls.specs.World.{World, with_objects}
-use Rattle.abi_calls.proofs.NumberMaps.{get_none, get_set, get_same, set_twice}
+use Rattle.bas_items.proofs.NumberMaps.{get-empty, get-insert, get-insert-same, insert-insert}
 use Rattle.mono_model.specs.Machine as mono
 use Rattle.mono_model.specs.Machine.{Mono, exited, process_at, thread_at, with_thread}
 use Rattle.mono_model.specs.Calls.{description_of, described_by, described_in, memory_at, memory_in}
@@ -61,7 +61,7 @@ pub processes_set : (notes : List ProcessNote) (n : ProcessNote) (space : Space)
 processes_set notes n space live new is alive at =
     let process : mono.Process = process_if None space n.descriptors in
     processes_one notes n new is ∙ (λ i. only n.pid (process_if (alive i) (at i) n.descriptors))
-    ∙ sym (ap (λ m. insert m n.pid process) (processes_one notes n live is) ∙ set_twice empty n.pid (process_seen live n) process)
+    ∙ sym (ap (λ m. insert m n.pid process) (processes_one notes n live is) ∙ insert-insert empty n.pid (process_seen live n) process)
 
 -- a thread with other registers
 pub threads_set : (notes : List ThreadNote) (n : ThreadNote) (p : ℕ) (context : Context) (live new : Live) → notes ≡ n ∷ [] →
@@ -69,7 +69,7 @@ pub threads_set : (notes : List ThreadNote) (n : ThreadNote) (p : ℕ) (context 
 threads_set notes n p context live new is at =
     let thread : mono.Thread = record { process = n.pid; context = context } in
     threads_one notes n new is ∙ ap (λ x. only n.tid (record { process = n.pid; context = context_of x })) at
-    ∙ sym (ap (λ m. insert m n.tid thread) (threads_one notes n live is) ∙ set_twice empty n.tid (thread_seen live n) thread)
+    ∙ sym (ap (λ m. insert m n.tid thread) (threads_one notes n live is) ∙ insert-insert empty n.tid (thread_seen live n) thread)
 
 pub base_set : (os : LibOs) (w : World) (p : ProcessNote) (t : ThreadNote) (context : Context) (new : Live) → os.processes ≡ p ∷ [] → os.threads ≡ t ∷ [] →
     memory_of_object (get {R = nat_cmp} new p.handle) ≡ memory_of_object (get {R = nat_cmp} w.objects.live p.handle) → get {R = nat_cmp} new t.handle ≡ Some (Thread p.handle context) →
@@ -108,8 +108,8 @@ module _ {N X : Type 0} (key : N → ℕ) (value : N → X) where
   found q n false rest = refl
 
   get_mapped : (notes : List N) (q : ℕ) → get (mapped key value notes) q ≡ option_map value (find (λ n. key n == q) notes)
-  get_mapped [] q = get_none q
-  get_mapped (n ∷ notes) q = get_set (mapped key value notes) (key n) (value n) q
+  get_mapped [] q = get-empty q
+  get_mapped (n ∷ notes) q = get-insert (mapped key value notes) (key n) (value n) q
       ∙ (λ i. cond (flipped q (key n) i) (Some (value n)) (get_mapped notes q i))
       ∙ found q n (key n == q) (find (λ n. key n == q) notes)
 
@@ -118,7 +118,7 @@ pub process_there : (os : LibOs) (w : World) (p : ProcessNote) → os.processes 
     process_at (base os w) p.pid ≡ Some (process_if None (memory_of_object (get {R = nat_cmp} w.objects.live p.handle)) p.descriptors)
 process_there os w p processes alive =
     let memory : Space = memory_of_object (get {R = nat_cmp} w.objects.live p.handle) in
-    ap (λ m. get {R = nat_cmp} m p.pid) (processes_one os.processes p w.objects.live processes) ∙ get_same empty p.pid (process_seen w.objects.live p)
+    ap (λ m. get {R = nat_cmp} m p.pid) (processes_one os.processes p w.objects.live processes) ∙ get-insert-same empty p.pid (process_seen w.objects.live p)
     ∙ ap (λ code. Some (process_if code memory p.descriptors)) alive
 
 pub memory_there : (os : LibOs) (w : World) (p : ProcessNote) → os.processes ≡ p ∷ [] → p.code ≡ None →
@@ -126,7 +126,7 @@ pub memory_there : (os : LibOs) (w : World) (p : ProcessNote) → os.processes �
 memory_there os w p processes alive = ap memory_in (process_there os w p processes alive)
 
 pub thread_there : (os : LibOs) (w : World) (t : ThreadNote) → os.threads ≡ t ∷ [] → thread_at (base os w) t.tid ≡ Some (thread_seen w.objects.live t)
-thread_there os w t threads = ap (λ m. get {R = nat_cmp} m t.tid) (threads_one os.threads t w.objects.live threads) ∙ get_same empty t.tid (thread_seen w.objects.live t)
+thread_there os w t threads = ap (λ m. get {R = nat_cmp} m t.tid) (threads_one os.threads t w.objects.live threads) ∙ get-insert-same empty t.tid (thread_seen w.objects.live t)
 
 description_at : (os : LibOs) (w : World) (d : Option DescriptorNote) → described_by (base os w) (option_map (λ n. n.description) d) ≡ option_map description_seen (described os.descriptions d)
 description_at os w None = refl

@@ -21,7 +21,7 @@ use Rattle.abi_calls.specs.Processes.{is_acceptable}
 use Rattle.abi_calls.specs.Abi.{Abi, answer}
 use Rattle.abi_calls.specs.Sound.{IsSound}
 use Rattle.abi_calls.specs.Fresh.{IsFreshWorld}
-use Rattle.abi_calls.proofs.NumberMaps.{get_none}
+use Rattle.bas_items.proofs.NumberMaps.{get-empty}
 use Rattle.abi_calls.proofs.Facts.{AreEmpty-no_objects}
 use Rattle.abi_calls.proofs.Worked.{resume_suspended}
 use Rattle.mono_model.specs.Starting.{Runs, begun, boot}
@@ -53,7 +53,7 @@ pub record CanBoot (program : List ℕ) (args : List (List ℕ)) (settings : Set
   pub acceptable : is_acceptable settings ≡ true
 
 none_in : (test : Object → Bool) (live : Live) → live ≡ empty → NoneLive test live
-none_in test live none = λ q. ap (λ (m : Live). passes test (get {R = nat_cmp} m q)) none ∙ ap (passes test) (get_none q)
+none_in test live none = λ q. ap (λ (m : Live). passes test (get {R = nat_cmp} m q)) none ∙ ap (passes test) (get-empty q)
 
 -- In a world where nothing was done the library OS that begins fits, and stands for the machine's start.
 pub boot_fits : (program : List ℕ) (args : List (List ℕ)) (settings : Settings) (w : World) (answered : ℕ) → CanBoot program args settings → IsFreshWorld w.objects answered → IsSound w.objects →

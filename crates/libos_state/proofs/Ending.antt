@@ -15,7 +15,7 @@ use Rattle.abi_calls.specs.World.{World, with_objects, on_objects}
 use Rattle.abi_calls.specs.Processes.{close_row, process_exit_row, without_threads}
 use Rattle.abi_calls.specs.Abi.{Abi}
 use Rattle.abi_calls.specs.Sound.{IsSound}
-use Rattle.abi_calls.proofs.NumberMaps.{get_same}
+use Rattle.bas_items.proofs.NumberMaps.{get-insert-same}
 use Rattle.abi_calls.proofs.SoundChanges.{object_at-left}
 use Rattle.mono_model.specs.Starting.{Runs}
 use Rattle.libos_state.specs.declared.cont.Cont.{Cont}
@@ -159,7 +159,7 @@ module _ (os : LibOs) (c : Cont) (w : World) (fits : FitsEnding os w.objects c) 
   exited_object =
       let live = (without_threads w.objects exiting).live in
       let x : Object = Process empty (Some (number c 0 % 256)) in
-      ap (λ h. get {R = nat_cmp} (insert live exiting x) h) (sym (exiting_is ∙ fits.of_process)) ∙ get_same live exiting x ∙ ap (λ n. Some (Process empty (Some n))) code_asked
+      ap (λ h. get {R = nat_cmp} (insert live exiting x) h) (sym (exiting_is ∙ fits.of_process)) ∙ get-insert-same live exiting x ∙ ap (λ n. Some (Process empty (Some n))) code_asked
 
   exited_over : FitsOver (ends os) exited_objects fits.code
   exited_over = record {

@@ -10,7 +10,7 @@ use Rattle.abi_calls.specs.declared.object.Object.TheVariants.{Thread}
 use Rattle.abi_calls.specs.declared.threads.Upcall.{Upcall}
 use Rattle.abi_calls.specs.Objects.{object_at, running}
 use Rattle.abi_calls.specs.World.{World}
-use Rattle.abi_calls.proofs.NumberMaps.{set_twice}
+use Rattle.bas_items.proofs.NumberMaps.{insert-insert}
 use Rattle.mono_model.specs.Machine.{Mono, register, returned, exited}
 use Rattle.mono_model.specs.Calls.{Caller, WRITE, EXIT, EBADF, ENOSYS, error, fault_code, finished, ended, description_of, memory_at, write, write_to, write_from, writable, moved, exit, system_call, served}
 use Rattle.mono_model.specs.Starting.{Runs}
@@ -110,7 +110,7 @@ module _ (os : LibOs) (w : World) (u : Upcall) (fits : FitsServed os w.objects (
       let seen = process_seen w.objects.live fits.process in
       let ps = processes_over (ending code).processes (note code) code w.objects.live (notes_are code) refl
       ∙ sym ((λ i. insert (processes_one os.processes fits.process w.objects.live fits.records.processes i) (caller_process os w.objects (entered_with u) fits i) (exited code))
-      ∙ set_twice empty pid seen (exited code)) in
+      ∙ insert-insert empty pid seen (exited code)) in
       let rs = ap (tids_of []) fits.ready in
       λ i. record m { processes = ps i; threads = empty; descriptions = empty; ready = rs i }
 

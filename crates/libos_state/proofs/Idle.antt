@@ -8,7 +8,7 @@ use Rattle.std.proofs.Common.{refl, sym, ap, subst, ◌∙◌, eq-eqb}
 use Rattle.std.proofs.lemmas.Bool.{cond-true}
 use Rattle.abi_calls.specs.Objects.{Objects}
 use Rattle.abi_calls.specs.World.{World}
-use Rattle.abi_calls.proofs.NumberMaps.{get_same}
+use Rattle.bas_items.proofs.NumberMaps.{get-insert-same}
 use Rattle.mono_model.specs.Machine.{Mono, code_in, process_at, exited}
 use Rattle.mono_model.specs.Machine as mono
 use Rattle.libos_state.specs.declared.notes.ProcessNote.{ProcessNote}
@@ -39,7 +39,7 @@ pub exit_code_over : (os : LibOs) (w : World) (code : ℕ) → FitsOver os w.obj
 exit_code_over os w code fits =
     ap (mono.exit_code (base os w)) (sym fits.first)
     ∙ ap (λ m. code_in (get {R = nat_cmp} m fits.process.pid)) (processes_over os.processes fits.process code w.objects.live fits.processes fits.ended)
-    ∙ ap code_in (get_same empty fits.process.pid (exited code))
+    ∙ ap code_in (get-insert-same empty fits.process.pid (exited code))
 
 pub ready_idle : (os : LibOs) (w : World) → FitsIdle os w.objects → (base os w).ready ≢ []
 ready_idle os w fits none = absurd (let e : fits.thread.tid ∷ [] ≡ [] = sym (idle_ready os w fits) ∙ none in cc)

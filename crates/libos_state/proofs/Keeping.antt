@@ -17,7 +17,7 @@ use Rattle.abi_calls.specs.World.{World, Answer}
 use Rattle.abi_calls.specs.Processes.{is_running}
 use Rattle.abi_calls.specs.Abi.{Abi, IsFreeChoice, answer}
 use Rattle.abi_calls.proofs.Counts.{count_none}
-use Rattle.abi_calls.proofs.NumberMaps.{get_set, get_other, get_kept}
+use Rattle.bas_items.proofs.NumberMaps.{get-insert, get-insert-other, get-retain_keys}
 use Rattle.mono_model.specs.Starting.{Started}
 use Rattle.libos_state.specs.declared.cont.Cont.{Cont}
 use Rattle.libos_state.specs.declared.cont.Stage.{Stage}
@@ -47,7 +47,7 @@ fresh_handle w w' call r h made abi row =
 
 -- An object stays where another comes at a number of none.
 pub object_kept : (live : Live) (h a : ℕ) (x y : Object) → get {R = nat_cmp} live h ≡ None → get {R = nat_cmp} live a ≡ Some x → get {R = nat_cmp} (insert live h y) a ≡ Some x
-object_kept live h a x y free there = get_other live h y a (λ same. none-some x (sym free ∙ ap (get {R = nat_cmp} live) (sym same) ∙ there)) ∙ there
+object_kept live h a x y free there = get-insert-other live h y a (λ same. none-some x (sym free ∙ ap (get {R = nat_cmp} live) (sym same) ∙ there)) ∙ there
 
 -- No object passes a test: also where one comes that doesn't, or some go.
 module _ (test : Object → Bool) where
@@ -56,14 +56,14 @@ module _ (test : Object → Bool) where
   set_fails x y false fails none = none
 
   pub none_set : (live : Live) (h : ℕ) (x : Object) → test x ≡ false → NoneLive test live → NoneLive test (insert live h x)
-  none_set live h x fails none = λ q. ap (passes test) (get_set live h x q) ∙ set_fails x (get {R = nat_cmp} live q) (q == h) fails (none q)
+  none_set live h x fails none = λ q. ap (passes test) (get-insert live h x q) ∙ set_fails x (get {R = nat_cmp} live q) (q == h) fails (none q)
 
   left_fails : (y : Option Object) (b : Bool) → passes test y ≡ false → passes test (cond b y None) ≡ false
   left_fails y true none = none
   left_fails y false none = refl
 
   pub none_without : (o : Objects) (ends : ℕ → Bool) → NoneLive test o.live → NoneLive test (without_handles o ends).live
-  none_without o ends none = λ q. ap (passes test) (get_kept o.live (λ k. not (ends k)) q) ∙ left_fails (get {R = nat_cmp} o.live q) (not (ends q)) (none q)
+  none_without o ends none = λ q. ap (passes test) (get-retain_keys o.live (λ k. not (ends k)) q) ∙ left_fails (get {R = nat_cmp} o.live q) (not (ends q)) (none q)
 
   pub number_none : (live : Live) → NoneLive test live → number_of test live ≡ 0
   number_none live none = count_none test live (λ q x is. sym (ap (passes test) is) ∙ none q)
@@ -77,7 +77,7 @@ module _ (t h : ℕ) (x : Object) (same : (p : ℕ) (context : Context) → x �
 
   pub IsLoneThread-insert : (live : Live) → IsLoneThread live t → IsLoneThread (insert live h x) t
   IsLoneThread-insert live alone q p context is =
-      lone_at q p context (get {R = nat_cmp} live q) (q == h) refl (alone q p context) (sym (get_set live h x q) ∙ is)
+      lone_at q p context (get {R = nat_cmp} live q) (q == h) refl (alone q p context) (sym (get-insert live h x q) ∙ is)
 
 -- Where there is no thread, none is there beside any.
 pub IsLoneThread-none : (live : Live) (t : ℕ) → NoneLive is_thread live → IsLoneThread live t

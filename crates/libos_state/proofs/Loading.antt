@@ -19,7 +19,7 @@ use Rattle.abi_calls.specs.World.{World, with_objects, on_objects}
 use Rattle.abi_calls.specs.Memory.{with_pages}
 use Rattle.abi_calls.specs.Abi.{Abi, answer}
 use Rattle.abi_calls.specs.Sound.{IsSound}
-use Rattle.abi_calls.proofs.NumberMaps.{get_none}
+use Rattle.bas_items.proofs.NumberMaps.{get-empty}
 use Rattle.mono_model.specs.Program.{is_plain, page_count}
 use Rattle.mono_model.specs.Starting.{pages_in, loaded_run, filled_from, with_rights_of, stacked}
 use Rattle.mono_model.proofs.Sizes.{plain_size, length-page_bytes, pages_in_plain}
@@ -66,7 +66,7 @@ keeps_allocate_run os c w w' r fits sound abi =
     let some : 1 ≤ count = rw size.pages size.some in
     let few : count ≤ 257 = rw size.pages size.few in
     let there : object_at w.objects p ≡ Some (Process empty None) = fits.child.child ∙ ap (λ s. Some (Process s None)) fits.none in
-    let none = first_held-none empty 16 count (λ q _ _. ap (λ (x : Option Frame). option_map (λ (f : Frame). f.rights) x) (get_none q)) in
+    let none = first_held-none empty 16 count (λ q _ _. ap (λ (x : Option Frame). option_map (λ (f : Frame). f.rights) x) (get-empty q)) in
     let room : len {X = Frame} empty + count ≤ 1024 = let zero_pages = len-empty nat_cmp Frame in omega arith in
     let new = with_run empty 16 count 3 in
     let row : answer w (asked os c AllocateRun) r ≡ (Done, with_objects w (with_pages w.objects p new)) = ap (on_objects w) (allocate_row w.objects p empty there 16 count 3 (program_run count some few) refl none room) in

@@ -17,7 +17,7 @@ use Rattle.abi_calls.specs.Processes.{process_create_row}
 use Rattle.abi_calls.specs.Threads.{with_thread, thread_create_row}
 use Rattle.abi_calls.specs.Abi.{Abi, answer, new_number}
 use Rattle.abi_calls.specs.Sound.{IsSound}
-use Rattle.abi_calls.proofs.NumberMaps.{get_same}
+use Rattle.bas_items.proofs.NumberMaps.{get-insert-same}
 use Rattle.mono_model.specs.Program.{plain_program}
 use Rattle.mono_model.specs.Starting.{begun_from, start_context, loaded_run, stacked}
 use Rattle.libos_state.specs.declared.cont.Cont.{Cont}
@@ -48,7 +48,7 @@ made_behind live handles h x free long opened =
       opened = opened_longer (insert live h x) handles (h ∷ []) long (opened_with live handles h x free opened);
       long = length_push handles h;
       last = last;
-      there = ap (get {R = nat_cmp} (insert live h x)) last ∙ get_same live h x;
+      there = ap (get {R = nat_cmp} (insert live h x)) last ∙ get-insert-same live h x;
       before = before;
       stays = λ n y low there. ap (get {R = nat_cmp} (insert live h x)) (before n low) ∙ object_kept live h (slice_index handles n) y x free there;
     }

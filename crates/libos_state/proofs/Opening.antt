@@ -19,7 +19,7 @@ use Rattle.abi_calls.specs.Streams.{stream_of, open_answer, named, open_found, s
 use Rattle.abi_calls.specs.Processes.{is_running, is_acceptable, configure_row}
 use Rattle.abi_calls.specs.Abi.{Abi, answer, new_number}
 use Rattle.abi_calls.specs.Sound.{IsSound}
-use Rattle.abi_calls.proofs.NumberMaps.{get_same}
+use Rattle.bas_items.proofs.NumberMaps.{get-insert-same}
 use Rattle.mono_model.specs.Starting.{started, started_if, started_with}
 use Rattle.libos_state.specs.declared.cont.Cont.{Cont}
 use Rattle.libos_state.specs.declared.cont.Stage.TheVariants.{OpenConsole, OpenProgram, ProgramLength}
@@ -119,7 +119,7 @@ opened_program os c w w' r fits abi (Some bytes) is =
     let row : answer w (asked os c OpenProgram) r ≡ (Handle h, with_objects w o) = open_row w name h (Some bytes) fits.start.names.named fits.start.names.short is in
     let fresh = fresh_handle w w' (asked os c OpenProgram) r h (with_objects w o) abi row in
     let last : slice_index handles 3 ≡ h = get_or_push c.handles h 0 3 fits.count in
-    let file : object_at o (slice_index handles 3) ≡ Some (Stream (File name)) = ap (object_at o) last ∙ get_same w.objects.live h (Stream (File name)) in
+    let file : object_at o (slice_index handles 3) ≡ Some (Stream (File name)) = ap (object_at o) last ∙ get-insert-same w.objects.live h (Stream (File name)) in
     let front : Opened o.live c.handles = opened_with w.objects.live c.handles h (Stream (File name)) fresh.free fits.opened in
     let ends : Opened o.live handles = opened_longer o.live c.handles (h ∷ []) (let count = fits.count in omega arith) front in
     let long : length handles ≡ 4 = let count = fits.count in omega (arith, length_push c.handles h) in

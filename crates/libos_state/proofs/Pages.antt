@@ -18,7 +18,7 @@ use Rattle.abi_calls.specs.declared.reply.Reply.TheVariants.{Done, Exists, BadAd
 use Rattle.abi_calls.specs.Objects.{Object, Objects, object_at, running, is_thread, with_object}
 use Rattle.abi_calls.specs.World.{World}
 use Rattle.abi_calls.specs.Memory.{with_pages, memory_allocate_row, memory_protect_row, memory_write_row, unless_fault}
-use Rattle.abi_calls.proofs.NumberMaps.{get_none, get_same, get_other}
+use Rattle.bas_items.proofs.NumberMaps.{get-empty, get-insert-same, get-insert-other}
 use Rattle.mono_model.specs.Program.{page_count}
 use Rattle.mono_model.specs.Starting.{STACK_PAGE, STACK_PAGES}
 use Rattle.libos_state.specs.declared.cont.Cont.{Cont}
@@ -47,9 +47,9 @@ behind page n q high = and_right _ _ (le-ltb q (page + n) high)
 pub pages_made : (count : ℕ) → HasPages (with_run empty 16 count 3) count 3 0
 pages_made count = record {
   pages = λ q. page_rights-with_run empty 16 count 3 q
-      ∙ ap (λ (x : Option Frame). cond (in_run 16 count q) (Some 3) (option_map (λ (f : Frame). f.rights) x)) (get_none q)
+      ∙ ap (λ (x : Option Frame). cond (in_run 16 count q) (Some 3) (option_map (λ (f : Frame). f.rights) x)) (get-empty q)
       ∙ ap (λ b. cond (in_run 16 count q) (Some 3) (cond b (Some 3) None)) (sym (no_run STACK_PAGE q));
-  held = len-with_run empty 16 count 3 (λ q _ _. ap (λ (x : Option Frame). is_some x) (get_none q)) ∙ ap (λ n. n + count) (len-empty nat_cmp Frame) ∙ (let e : 0 + count ≡ count + 0 = omega arith in e);
+  held = len-with_run empty 16 count 3 (λ q _ _. ap (λ (x : Option Frame). is_some x) (get-empty q)) ∙ ap (λ n. n + count) (len-empty nat_cmp Frame) ∙ (let e : 0 + count ≡ count + 0 = omega arith in e);
 }
 
 -- Other bytes.
@@ -131,7 +131,7 @@ pub child_was : (w : World) (c : Cont) (s : Space) → object_at w.objects (file
 child_was w c s there = ap memory_of_object there
 
 pub child_is : (o : Objects) (p : ℕ) (s : Space) → memory_of_object (object_at (with_object o p (Process s None)) p) ≡ s
-child_is o p s = ap memory_of_object (get_same o.live p (Process s None))
+child_is o p s = ap memory_of_object (get-insert-same o.live p (Process s None))
 
 pub pages_go_on : (os : LibOs) (o : Objects) (c : Cont) (stage : Stage) (numbers : List ℕ) (s : Space) (rights stack : ℕ) → FitsChild os o c → HasPages s (page_count c.bytes) rights stack →
     FitsPages (goes_on os (starting c stage c.bytes c.handles numbers)) (with_object o (file_or_child c) (Process s None)) (starting c stage c.bytes c.handles numbers) rights stack
@@ -146,10 +146,10 @@ pages_go_on os o c stage numbers s rights stack fits has =
         no_thread = none_set is_thread o.live p child refl fits.no_thread;
         count = fits.count;
         opened = opened_kept o.live o'.live c.handles
-            (λ a name _ held. get_other o.live p child a (λ same. absurd (let both : Some (Stream name) ≡ Some (Process fits.memory None) = sym held ∙ ap (object_at o) same ∙ fits.child in cc)) ∙ held) fits.opened;
+            (λ a name _ held. get-insert-other o.live p child a (λ same. absurd (let both : Some (Stream name) ≡ Some (Process fits.memory None) = sym held ∙ ap (object_at o) same ∙ fits.child in cc)) ∙ held) fits.opened;
         plain = fits.plain;
         memory = s;
-        child = get_same o.live p child;
+        child = get-insert-same o.live p child;
       };
       pages = has;
     }

@@ -16,7 +16,7 @@ use Rattle.abi_calls.specs.World.{World, with_objects, on_objects}
 use Rattle.abi_calls.specs.Threads.{thread_resume_row, thread_context_row}
 use Rattle.abi_calls.specs.Abi.{Abi}
 use Rattle.abi_calls.specs.Sound.{IsSound}
-use Rattle.abi_calls.proofs.NumberMaps.{get_same, get_other}
+use Rattle.bas_items.proofs.NumberMaps.{get-insert-same, get-insert-other}
 use Rattle.mono_model.specs.Machine.{Mono, with_thread, made_ready}
 use Rattle.mono_model.specs.Starting.{Runs}
 use Rattle.libos_state.specs.declared.cont.Cont.{Cont}
@@ -56,10 +56,10 @@ module _ (os : LibOs) (c : Cont) (w : World) (fits : FitsServed os w.objects c) 
   set_live = insert w.objects.live trap_handle (Thread fits.process.handle c.next)
 
   set_other : (h : ℕ) → h ≢ fits.thread.handle → get {R = nat_cmp} set_live h ≡ get {R = nat_cmp} w.objects.live h
-  set_other h other = get_other w.objects.live trap_handle (Thread fits.process.handle c.next) h (λ same. other (same ∙ trap_thread os w.objects c fits))
+  set_other h other = get-insert-other w.objects.live trap_handle (Thread fits.process.handle c.next) h (λ same. other (same ∙ trap_thread os w.objects c fits))
 
   set_thread : get {R = nat_cmp} set_live fits.thread.handle ≡ Some (Thread fits.process.handle c.next)
-  set_thread = ap (get {R = nat_cmp} set_live) (sym (trap_thread os w.objects c fits)) ∙ get_same w.objects.live trap_handle (Thread fits.process.handle c.next)
+  set_thread = ap (get {R = nat_cmp} set_live) (sym (trap_thread os w.objects c fits)) ∙ get-insert-same w.objects.live trap_handle (Thread fits.process.handle c.next)
 
   set_process : get {R = nat_cmp} set_live fits.process.handle ≡ get {R = nat_cmp} w.objects.live fits.process.handle
   set_process = set_other fits.process.handle (process_apart os w.objects.live fits.process fits.thread fits.records)

@@ -10,7 +10,7 @@ use Rattle.abi_calls.specs.declared.object.Object.TheVariants.{Stream}
 use Rattle.turn_sched.specs.Lists.{unless_ended}
 use Rattle.abi_calls.specs.Objects.{Object, Objects, Live, is_process, is_thread, with_object, without_handles}
 use Rattle.abi_calls.specs.Abi.{is_file}
-use Rattle.abi_calls.proofs.NumberMaps.{get_same}
+use Rattle.bas_items.proofs.NumberMaps.{get-insert-same}
 use Rattle.libos_state.specs.declared.cont.Cont.{Cont}
 use Rattle.libos_state.specs.declared.cont.Stage.{Stage}
 use Rattle.libos_state.specs.declared.state.LibOs.{LibOs}
@@ -100,10 +100,10 @@ opened_with live handles h x free opened = opened_kept live (insert live h x) ha
 -- The next end is opened.
 pub opened_more : (live : Live) (handles : List ℕ) (h : ℕ) → get {R = nat_cmp} live h ≡ None → length handles < 3 → Opened live handles →
     Opened (insert live h (Stream (console_name (length handles)))) (handles ++ h ∷ [])
-opened_more live [] h free few opened = get_same live h (Stream stream.ConIn)
-opened_more live (a ∷ []) h free few opened = (object_kept live h a (Stream stream.ConIn) (Stream stream.ConOut) free opened, get_same live h (Stream stream.ConOut))
+opened_more live [] h free few opened = get-insert-same live h (Stream stream.ConIn)
+opened_more live (a ∷ []) h free few opened = (object_kept live h a (Stream stream.ConIn) (Stream stream.ConOut) free opened, get-insert-same live h (Stream stream.ConOut))
 opened_more live (a ∷ b ∷ []) h free few opened =
-    (object_kept live h a (Stream stream.ConIn) (Stream stream.ConErr) free opened.0, object_kept live h b (Stream stream.ConOut) (Stream stream.ConErr) free opened.1, get_same live h (Stream stream.ConErr))
+    (object_kept live h a (Stream stream.ConIn) (Stream stream.ConErr) free opened.0, object_kept live h b (Stream stream.ConOut) (Stream stream.ConErr) free opened.1, get-insert-same live h (Stream stream.ConErr))
 opened_more live (a ∷ b ∷ c ∷ rest) h free few opened = absurd (omega arith)
 
 -- Handles behind those of the console.

@@ -19,7 +19,7 @@ use Rattle.abi_calls.specs.World.{World, with_objects}
 use Rattle.abi_calls.specs.Sound.{IsSound}
 use Rattle.abi_calls.specs.Turn.{world_turn, turn_of_pick, run_in, run_end, with_run_of, with_pick, pick_of, with_due_ready, is_due}
 use Rattle.abi_calls.specs.Turn as host
-use Rattle.abi_calls.proofs.NumberMaps.{get_same, get_other}
+use Rattle.bas_items.proofs.NumberMaps.{get-insert-same, get-insert-other}
 use Rattle.mono_model.specs.Machine.{Mono, thread_at, with_thread, made_ready}
 use Rattle.mono_model.specs.Calls.{served, memory_at}
 use Rattle.mono_model.specs.Turns as machine
@@ -130,16 +130,16 @@ module _ (os : LibOs) (w : World) (fits : FitsIdle os w.objects) (sound : IsSoun
   ran_process = insert w.objects.live process.handle (Process run.space None)
 
   after_thread : get {R = nat_cmp} after.live thread.handle ≡ Some (Thread process.handle run.context)
-  after_thread = get_same ran_process thread.handle (Thread process.handle run.context)
+  after_thread = get-insert-same ran_process thread.handle (Thread process.handle run.context)
 
   after_process : get {R = nat_cmp} after.live process.handle ≡ Some (Process run.space None)
-  after_process = get_other ran_process thread.handle (Thread process.handle run.context) process.handle (process_apart os w.objects.live process thread fits.records)
-      ∙ get_same w.objects.live process.handle (Process run.space None)
+  after_process = get-insert-other ran_process thread.handle (Thread process.handle run.context) process.handle (process_apart os w.objects.live process thread fits.records)
+      ∙ get-insert-same w.objects.live process.handle (Process run.space None)
 
   after_closable : (h : ℕ) → is_closable (get {R = nat_cmp} w.objects.live h) ≡ true → get {R = nat_cmp} after.live h ≡ get {R = nat_cmp} w.objects.live h
   after_closable h closable =
-      get_other ran_process thread.handle (Thread process.handle run.context) h (closable_apart os w.objects.live process thread fits.records h closable)
-      ∙ get_other w.objects.live process.handle (Process run.space None) h (closable_apart_process os w.objects.live process thread fits.records h closable)
+      get-insert-other ran_process thread.handle (Thread process.handle run.context) h (closable_apart os w.objects.live process thread fits.records h closable)
+      ∙ get-insert-other w.objects.live process.handle (Process run.space None) h (closable_apart_process os w.objects.live process thread fits.records h closable)
 
   after_alone : IsLoneThread after.live thread.handle
   after_alone =

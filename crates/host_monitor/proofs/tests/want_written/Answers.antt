@@ -10,7 +10,7 @@ use Rattle.abi_calls.specs.Objects.{Objects, object_at}
 use Rattle.abi_calls.specs.World.{Told, Answer}
 use Rattle.abi_calls.specs.Streams.{stream_of}
 use Rattle.abi_calls.specs.Abi.{Answers, is_file}
-use Rattle.abi_calls.proofs.NumberMaps.{get_same}
+use Rattle.bas_items.proofs.NumberMaps.{get-insert-same}
 use Rattle.host_monitor.proofs.tests.want_written.Goals as goal
 
 -- A stream that was opened on an end of the console is no file.
@@ -18,11 +18,11 @@ is_file-opened : (o o' : Objects) (told told' : Told) (name : StreamName) (h : �
     → is_file (stream_of (object_at o' h)) ≡ false
 is_file-opened o o' told told' (File name) h console a = absurd (true≢false console)
 is_file-opened o o' told told' ConIn h console a =
-    ap (λ (x : Answer). is_file (stream_of (object_at x.1.objects h))) (sym a.abi.row) ∙ ap (λ x. is_file (stream_of x)) (get_same o.live h (Stream ConIn))
+    ap (λ (x : Answer). is_file (stream_of (object_at x.1.objects h))) (sym a.abi.row) ∙ ap (λ x. is_file (stream_of x)) (get-insert-same o.live h (Stream ConIn))
 is_file-opened o o' told told' ConOut h console a =
-    ap (λ (x : Answer). is_file (stream_of (object_at x.1.objects h))) (sym a.abi.row) ∙ ap (λ x. is_file (stream_of x)) (get_same o.live h (Stream ConOut))
+    ap (λ (x : Answer). is_file (stream_of (object_at x.1.objects h))) (sym a.abi.row) ∙ ap (λ x. is_file (stream_of x)) (get-insert-same o.live h (Stream ConOut))
 is_file-opened o o' told told' ConErr h console a =
-    ap (λ (x : Answer). is_file (stream_of (object_at x.1.objects h))) (sym a.abi.row) ∙ ap (λ x. is_file (stream_of x)) (get_same o.live h (Stream ConErr))
+    ap (λ (x : Answer). is_file (stream_of (object_at x.1.objects h))) (sym a.abi.row) ∙ ap (λ x. is_file (stream_of x)) (get-insert-same o.live h (Stream ConErr))
 
 pub want-requires : goal.want-requires
 want-requires g c = is_file-opened _ _ _ _ c.args.name c.in-Handle.stream c.requires (rw c.in-Handle.is at c.in_ok-stream.ensures.row)
