@@ -1,98 +1,68 @@
 -- Threads of a process that end one after another, and the look for the next one.
-use Rattle.std.specs.Prelude.{◌≡◌, ℕ, ◌-◌, ◌<◌, Bool, true, false, ◌==◌, ◌||◌, not, List, [], ◌∷◌, map, filter, is_some}
+use Rattle.std.specs.Prelude.{◌≡◌, ℕ, ◌-◌, ◌<◌, Bool, true, false, ◌==◌, ◌||◌, not, List, [], ◌∷◌, is_some}
 use Rattle.std.specs.List.{list_any}
-use Rattle.std.specs.FinMap.{get, len, remove, retain_keys, len-remove, empty_of_len}
+use Rattle.std.specs.FinMap.{empty, get, len, remove, retain_keys, len-remove, empty_of_len}
 use Rattle.std.specs.Cmp.{nat_cmp_total}
 use Rattle.std.specs.Ordering.{nat_cmp}
 use Rattle.std.specs.declared.option.Option.{Option}
 use Rattle.std.specs.declared.option.Option.TheVariants.{None, Some}
 use Rattle.std.proofs.Common.{refl, sym, ap, ◌∙◌, cond, arith, eqb-true}
-use Rattle.abi_calls.specs.declared.object.Object.TheVariants.{Process, Thread, Event, Stream}
-use Rattle.abi_calls.specs.Objects.{Object, Objects, Live, object_at, is_thread_of, running, forgotten, kept, without, without_handles}
+use Rattle.turn_sched.specs.Lists.{Lists}
+use Rattle.turn_sched.specs.Schedules.{without_thread}
+use Rattle.abi_calls.specs.declared.object.Object.TheVariants.{Process, Thread}
+use Rattle.abi_calls.specs.Objects.{Object, Objects, Live, Pipes, object_at, is_thread_of, running, without_handles, has_end}
 use Rattle.abi_calls.specs.Processes.{without_threads}
-use Rattle.abi_calls.proofs.NumberMaps.{get_kept, same_numbers, kept_all, get_none}
-use Rattle.host_objects.specs.Objects.{HasNoThread}
-use Rattle.host_objects.proofs.Rows.{ended_objects}
-
--- ---- lists
--- What two tests keep after one another, where a third keeps just that.
-pub filter-filter : (first second both : ℕ → Bool) → ((x : ℕ) → cond (first x) (second x) false ≡ both x) → (xs : List ℕ) → filter second (filter first xs) ≡ filter both xs
-filter-filter first second both same [] = refl
-filter-filter first second both same (x ∷ xs) =
-    let rest = filter-filter first second both same xs in
-    elim (first x) as (λ b. cond b (second x) false ≡ both x → filter second (cond b (x ∷ filter first xs) (filter first xs)) ≡ cond (both x) (x ∷ filter both xs) (filter both xs)) [
-      | true ↦ λ e. ap (λ b. cond b (x ∷ filter second (filter first xs)) (filter second (filter first xs))) e ∙ ap (λ ys. cond (both x) (x ∷ ys) ys) rest
-      | false ↦ λ e. rest ∙ ap (λ b. cond b (x ∷ filter both xs) (filter both xs)) e
-    ] (same x)
-
-pub filter-all : (keeps : ℕ → Bool) → ((x : ℕ) → keeps x ≡ true) → (xs : List ℕ) → filter keeps xs ≡ xs
-filter-all keeps all [] = refl
-filter-all keeps all (x ∷ xs) = ap (λ b. cond b (x ∷ filter keeps xs) (filter keeps xs)) (all x) ∙ ap (λ ys. x ∷ ys) (filter-all keeps all xs)
-
-kept-kept : (first second both : ℕ → Bool) → ((x : ℕ) → cond (not (first x)) (not (second x)) false ≡ not (both x)) → (current : Option ℕ) → kept second (kept first current) ≡ kept both current
-kept-kept first second both same None = refl
-kept-kept first second both same (Some x) =
-    elim (first x) as (λ b. cond (not b) (not (second x)) false ≡ not (both x) → kept second (cond b None (Some x)) ≡ cond (both x) None (Some x)) [
-      | true ↦ λ e. elim (both x) as (λ b. false ≡ not b → None ≡ cond b None (Some x)) [ true ↦ λ _. refl | false ↦ λ e. absurd (cc) ] e
-      | false ↦ λ e. elim (second x) as (λ a. not a ≡ not (both x) → cond a None (Some x) ≡ cond (both x) None (Some x)) [
-        | true ↦ elim (both x) as (λ b. false ≡ not b → None ≡ cond b None (Some x)) [ true ↦ λ _. refl | false ↦ λ e. absurd (cc) ]
-        | false ↦ elim (both x) as (λ b. true ≡ not b → Some x ≡ cond b None (Some x)) [ true ↦ λ e. absurd (cc) | false ↦ λ _. refl ]
-      ] e
-    ] (same x)
-
-kept-none : (ends : ℕ → Bool) → ((x : ℕ) → ends x ≡ false) → (current : Option ℕ) → kept ends current ≡ current
-kept-none ends none None = refl
-kept-none ends none (Some x) = ap (λ b. cond b None (Some x)) (none x)
+use Rattle.bas_items.proofs.NumberMaps.{get-retain_keys, same_numbers, retain_keys-all, get-empty}
+use Rattle.host_objects.specs.System.{world_lists}
+use Rattle.host_objects.specs.Rows.{HasNoThread}
+use Rattle.host_objects.proofs.Lists.{without_numbers-twice, without_numbers-none}
+use Rattle.host_objects.proofs.Rows.{ended_objects, no_pipes}
 
 -- ---- one thread, and then the others
 -- The number of a thread of p ends; what is a thread of p after that was one before.
-ends_after : (p t q : ℕ) (x : Option Object) → (q ≡ t → is_thread_of p x ≡ true) → cond (not (q == t)) (not (is_thread_of p (cond (not (q == t)) x None))) false ≡ not (is_thread_of p x)
+ends_after : (p t q : ℕ) (x : Option Object) → (q ≡ t → is_thread_of p x ≡ true) → ((q == t) || is_thread_of p (cond (not (q == t)) x None)) ≡ is_thread_of p x
 ends_after p t q x there =
-    elim (q == t) as (λ b. (q == t) ≡ b → cond (not b) (not (is_thread_of p (cond (not b) x None))) false ≡ not (is_thread_of p x)) [
-      | true ↦ λ same. sym (ap not (there (eqb-true q t same)))
+    elim (q == t) as (λ b. (q == t) ≡ b → (b || is_thread_of p (cond (not b) x None)) ≡ is_thread_of p x) [
+      | true ↦ λ same. sym (there (eqb-true q t same))
       | false ↦ λ other. refl
     ] refl
 
-cond-cond : {X : Type 0} (a b : Bool) (x : Option X) → cond b (cond a x None) None ≡ cond (cond a b false) x None
-cond-cond true b x = refl
+cond-cond : {X : Type 0} (a b : Bool) (x : Option X) → cond (not b) (cond (not a) x None) None ≡ cond (not (a || b)) x None
+cond-cond true true x = refl
+cond-cond true false x = refl
 cond-cond false true x = refl
 cond-cond false false x = refl
 
 -- A thread of a process ends first, and then the others: all of them end.
-pub without_threads-next : (o : Objects) (p t : ℕ) → is_thread_of p (object_at o t) ≡ true → o.waiting ≡ [] → without_threads (without_handles o (λ k. k == t)) p ≡ without_threads o p
+pub without_threads-next : (o : Objects) (p t : ℕ) → is_thread_of p (object_at o t) ≡ true → o.pipes ≡ empty → without_threads (without_handles o (λ k. k == t)) p ≡ without_threads o p
 without_threads-next o p t thread none =
     let ends : ℕ → Bool = λ k. is_thread_of p (get {R = nat_cmp} o.live k) in
     let live1 : Live = retain_keys o.live (λ k. not (k == t)) in
     let after : ℕ → Bool = λ k. is_thread_of p (get {R = nat_cmp} live1 k) in
-    let same : (k : ℕ) → cond (not (k == t)) (not (after k)) false ≡ not (ends k) = λ k.
-    ap (λ x. cond (not (k == t)) (not (is_thread_of p x)) false) (get_kept o.live (λ j. not (j == t)) k)
+    let same : (k : ℕ) → ((k == t) || after k) ≡ ends k = λ k.
+    ap (λ x. (k == t) || is_thread_of p x) (get-retain_keys o.live (λ j. not (j == t)) k)
     ∙ ends_after p t k (get o.live k) (λ is. ap (λ j. is_thread_of p (get {R = nat_cmp} o.live j)) is ∙ thread) in
     let live : retain_keys live1 (λ k. not (after k)) ≡ retain_keys o.live (λ k. not (ends k)) = same_numbers _ _ (λ q.
-    get_kept live1 _ q ∙ ap (λ x. cond (not (after q)) x None) (get_kept o.live (λ j. not (j == t)) q)
-    ∙ cond-cond (not (q == t)) (not (after q)) (get o.live q) ∙ ap (λ b. cond b (get o.live q) None) (same q) ∙ sym (get_kept o.live _ q)) in
-    let waiting = ap (λ ws. map (forgotten after) (filter (λ w. not (after w.thread)) (map (forgotten (λ k. k == t)) (filter (λ w. not (w.thread == t)) ws)))) none
-    ∙ sym (ap (λ ws. map (forgotten ends) (filter (λ w. not (ends w.thread)) ws)) none) in
+    get-retain_keys live1 _ q ∙ ap (λ x. cond (not (after q)) x None) (get-retain_keys o.live (λ j. not (j == t)) q)
+    ∙ cond-cond (q == t) (after q) (get o.live q) ∙ ap (λ b. cond (not b) (get o.live q) None) (same q) ∙ sym (get-retain_keys o.live _ q)) in
+    let pipes1 : Pipes = retain_keys o.pipes (has_end live1) in
+    let pipes : retain_keys pipes1 (has_end (retain_keys live1 (λ k. not (after k)))) ≡ retain_keys o.pipes (has_end (retain_keys o.live (λ k. not (ends k)))) =
+    no_pipes pipes1 _ (no_pipes o.pipes _ none ∙ none) ∙ no_pipes o.pipes _ none ∙ sym (no_pipes o.pipes _ none) in
     λ i. record {
       live = live i;
-      ready = filter-filter (λ k. not (k == t)) (λ k. not (after k)) (λ k. not (ends k)) same o.ready i;
-      waiting = waiting i;
-      suspended = filter-filter (λ k. not (k == t)) (λ k. not (after k)) (λ k. not (ends k)) same o.suspended i;
-      current = kept-kept (λ k. k == t) after ends same o.current i;
+      pipes = pipes i;
+      lists = without_numbers-twice (λ k. k == t) after ends same o.lists i;
       positions = o.positions;
       settings = o.settings;
     }
 
 -- Where there is none, nothing ends.
-pub without_threads-none : (o : Objects) (p : ℕ) → HasNoThread o p → o.waiting ≡ [] → without_threads o p ≡ o
+pub without_threads-none : (o : Objects) (p : ℕ) → HasNoThread o p → o.pipes ≡ empty → without_threads o p ≡ o
 without_threads-none o p has none =
-    let stays : (k : ℕ) → not (is_thread_of p (object_at o k)) ≡ true = λ k. ap not (has.none k) in
-    let waiting = ap (λ ws. map (forgotten (λ k. is_thread_of p (object_at o k))) (filter (λ w. not (is_thread_of p (object_at o w.thread))) ws)) none ∙ sym none in
     λ i. record {
-      live = kept_all o.live (λ k. not (is_thread_of p (object_at o k))) (λ q v _. stays q) i;
-      ready = filter-all (λ k. not (is_thread_of p (object_at o k))) stays o.ready i;
-      waiting = waiting i;
-      suspended = filter-all (λ k. not (is_thread_of p (object_at o k))) stays o.suspended i;
-      current = kept-none (λ k. is_thread_of p (object_at o k)) has.none o.current i;
+      live = retain_keys-all o.live (λ k. not (is_thread_of p (object_at o k))) (λ q v _. ap not (has.none q)) i;
+      pipes = no_pipes o.pipes (has_end (retain_keys o.live (λ k. not (is_thread_of p (object_at o k))))) none i;
+      lists = without_numbers-none (λ k. is_thread_of p (object_at o k)) has.none o.lists i;
       positions = o.positions;
       settings = o.settings;
     }
@@ -100,7 +70,7 @@ without_threads-none o p has none =
 -- ---- fewer objects each time
 no_object : (m : Live) (t : ℕ) (x : Object) → get m t ≡ Some x → len m ≡ 0 → ⊥
 no_object m t x there none =
-    let gone : get m t ≡ None = ap (λ n. get {R = nat_cmp} n t) (empty_of_len m none) ∙ get_none t in
+    let gone : get m t ≡ None = ap (λ n. get {R = nat_cmp} n t) (empty_of_len m none) ∙ get-empty t in
     cc
 
 pub len-remove_there : (m : Live) (t : ℕ) (x : Object) → get m t ≡ Some x → len (remove m t) < len m
@@ -144,17 +114,13 @@ is_left_end o p rest left e = record {
 
 -- ---- the process itself stays
 stays_at : (p : ℕ) (x : Option Object) → is_some (running x) ≡ true → is_some (cond (not (is_thread_of p x)) x None) ≡ true
-stays_at p (Some (Process memory None)) runs = refl
-stays_at p (Some (Process memory (Some code))) runs = absurd (cc)
-stays_at p (Some (Thread process context)) runs = absurd (cc)
-stays_at p (Some (Event set)) runs = absurd (cc)
-stays_at p (Some (Stream name)) runs = absurd (cc)
-stays_at p None runs = absurd (cc)
+stays_at p (Some (Process memory code)) runs = refl
+stays_at p _ runs = absurd (cc)
 
 pub process_stays : (o o' : Objects) (p : ℕ) → is_some (running (object_at o p)) ≡ true → o' ≡ without_threads o p → is_some (object_at o' p) ≡ true
 process_stays o o' p runs e =
-    ap (λ q. is_some (object_at q p)) e ∙ ap is_some (get_kept o.live _ p) ∙ stays_at p (object_at o p) runs
+    ap (λ q. is_some (object_at q p)) e ∙ ap is_some (get-retain_keys o.live _ p) ∙ stays_at p (object_at o p) runs
 
 -- ---- a step of the loop
-pub ended_next : (o o' : Objects) (p t : ℕ) → is_thread_of p (object_at o t) ≡ true → o.waiting ≡ [] → o' ≡ record o { live = remove o.live t; ready = without o.ready t; suspended = without o.suspended t; current = kept (λ k. k == t) o.current } → without_threads o' p ≡ without_threads o p
-ended_next o o' p t thread none e = ap (λ q. without_threads q p) (sym (ended_objects o o' t none e)) ∙ without_threads-next o p t thread none
+pub ended_next : (o o' : Objects) (p t : ℕ) (l : Lists ℕ) → is_thread_of p (object_at o t) ≡ true → o.pipes ≡ empty → o.lists ≡ world_lists l → o' ≡ record o { live = remove o.live t; lists = world_lists (without_thread l t) } → without_threads o' p ≡ without_threads o p
+ended_next o o' p t l thread none lists e = ap (λ q. without_threads q p) (sym (ended_objects o o' t l none lists e)) ∙ without_threads-next o p t thread none

@@ -11,7 +11,7 @@ use Rattle.std.specs.FinMap.Entries.{below_all}
 use Rattle.std.specs.FinMap.{find, get, insert, remove, empty, from_entries, from_sorted, entries, is_sorted, entries-from_sorted, get-from_sorted, get-insert, get-remove, get-from_entries, same_map, nat_cmp-IsAntisymmetric}
 use Rattle.std.specs.declared.option.Option.TheVariants.{None, Some}
 use Rattle.std.proofs.Common.{refl, sym, ap, subst, ◌∙◌, cond, arith, T}
-use Rattle.abi_calls.proofs.NumberMaps.{get_none, get_same}
+use Rattle.bas_items.proofs.NumberMaps.{get-empty, get-insert-same}
 
 -- A number's place among numbers, by either test.
 pub is_member_number : (xs : List ℕ) (q : ℕ) → list_any (eq_by_cmp nat_cmp q) xs ≡ list_any (λ k. k == q) xs
@@ -49,8 +49,8 @@ module _ {X : Type 0} where
   pub length-no_entries : (es : List (ℕ × X)) → from_entries {R = nat_cmp} es ≡ empty → length es ≡ 0
   length-no_entries [] none = refl
   length-no_entries (e ∷ es) none =
-      let there : get (insert (from_entries {R = nat_cmp} es) e.0 e.1) e.0 ≡ Some e.1 = get_same (from_entries es) e.0 e.1 in
-      let gone : get {R = nat_cmp} (insert (from_entries es) e.0 e.1) e.0 ≡ None = ap (λ m. get m e.0) none ∙ get_none e.0 in
+      let there : get (insert (from_entries {R = nat_cmp} es) e.0 e.1) e.0 ≡ Some e.1 = get-insert-same (from_entries es) e.0 e.1 in
+      let gone : get {R = nat_cmp} (insert (from_entries es) e.0 e.1) e.0 ≡ None = ap (λ m. get m e.0) none ∙ get-empty e.0 in
       absurd (cc)
 
   -- ---- of entries by rising number

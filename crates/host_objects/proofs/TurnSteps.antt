@@ -1,25 +1,57 @@
 -- A turn, by the thread that is picked and by how it ends.
-use Rattle.std.specs.Prelude.{◌≡◌, ℕ, ◌==◌, Bool, true, false, List, unwrap_or, slice_index, slice_get, is_some}
+use Rattle.std.specs.Prelude.{◌≡◌, ℕ, ◌==◌, Bool, true, false, not, List, [], ◌++◌, map, filter, unwrap_or, slice_index, slice_get, is_some}
+use Rattle.std.specs.List.{list_any}
 use Rattle.std.specs.declared.option.Option.{Option}
 use Rattle.std.specs.declared.option.Option.TheVariants.{None, Some}
-use Rattle.std.proofs.Common.{refl, ap, ◌∙◌, cond}
+use Rattle.std.proofs.Common.{refl, sym, ap, ◌∙◌, cond, append-nil}
+use Rattle.std.proofs.lemmas.Bool.{cond-false}
+use Rattle.std.proofs.lemmas.Option.{unwrap_or-slice_get}
 use Rattle.rv_core.specs.declared.context.Context.{Context}
+use Rattle.rv_core.specs.Machine.{trap_of}
 use Rattle.guest_space.specs.Space.{Space}
 use Rattle.guest_space.specs.Running.{run_space}
+use Rattle.turn_sched.specs.Lists.{Waiting, Lists}
 use Rattle.abi_calls.specs.declared.object.Object.TheVariants.{Process, Thread}
+use Rattle.abi_calls.specs.declared.threads.Turned.{Turned}
+use Rattle.abi_calls.specs.declared.threads.Turned.TheVariants.{Stuck}
 use Rattle.abi_calls.specs.Objects.{Object, Objects, object_at, running, with_object}
+use Rattle.abi_calls.specs.Memory.{with_pages}
 use Rattle.abi_calls.specs.Sound.{IsSound}
-use Rattle.rv_core.specs.Machine.{trap_of}
-use Rattle.std.proofs.lemmas.Option.{unwrap_or-slice_get}
-use Rattle.abi_calls.proofs.NumberMaps.{get_set}
-use Rattle.host_objects.specs.Taken.{Took}
-use Rattle.host_objects.proofs.MemoryRows.{put_back}
+use Rattle.abi_calls.specs.Turn.{is_due, with_due_ready, idle_turn, pick_of, turn_of_pick, world_turn}
+use Rattle.bas_items.proofs.NumberMaps.{get-insert}
 use Rattle.abi_calls.proofs.Facts.{ready_thread}
 use Rattle.host_objects.specs.declared.turns.Slice.{Slice}
+use Rattle.host_objects.specs.System.{wait_for_nothing, world_lists}
+use Rattle.host_objects.specs.Taken.{Took}
 use Rattle.host_objects.specs.Turns.{HasHome, RunsSlice}
+use Rattle.host_objects.proofs.Lists.{none_passes, all_stay, any_waits}
+use Rattle.host_objects.proofs.MemoryRows.{put_back}
 
+-- ---- where each thread that waits waits for nothing
+-- None is due.
+not_due : (o : Objects) (l : Lists ℕ) → o.lists ≡ world_lists l → with_due_ready o ≡ o
+not_due o l e =
+    let waits : o.lists.waiting ≡ map wait_for_nothing l.waiting = ap {A = Lists Waiting} (λ ls. ls.waiting) e in
+    let none : filter (is_due o) o.lists.waiting ≡ [] = ap (filter (is_due o)) waits ∙ none_passes (is_due o) (λ t. refl) l.waiting in
+    let ready : o.lists.ready ++ map (λ w. w.thread) (filter (is_due o) o.lists.waiting) ≡ o.lists.ready =
+    ap (λ ws. o.lists.ready ++ map (λ w. w.thread) ws) none ∙ append-nil o.lists.ready in
+    let waiting : filter (λ w. not (is_due o w)) o.lists.waiting ≡ o.lists.waiting =
+    ap (filter (λ w. not (is_due o w))) waits ∙ all_stay (is_due o) (λ t. refl) l.waiting ∙ sym waits in
+    λ i. record o { lists = record o.lists { ready = ready i; waiting = waiting i } }
+
+pub turn_by_pick : (o o' : Objects) (l : Lists ℕ) (a : Turned) → o.lists ≡ world_lists l → turn_of_pick o (pick_of o) (slice_get o.lists.ready (pick_of o)) ≡ (a, o') → world_turn o ≡ (a, o')
+turn_by_pick o o' l a e turn = ap {A = Objects} (λ p. turn_of_pick p (pick_of p) (slice_get p.lists.ready (pick_of p))) (not_due o l e) ∙ turn
+
+-- None waits for a time.
+pub turn_stuck : (o o' : Objects) (l : Lists ℕ) → o.lists ≡ world_lists l → slice_get o.lists.ready (pick_of o) ≡ None → o' ≡ o → world_turn o ≡ (Stuck, o')
+turn_stuck o o' l e none same =
+    turn_by_pick o o' l Stuck e (ap (turn_of_pick o (pick_of o)) none
+    ∙ cond-false _ _ _ (ap {A = Lists Waiting} (λ ls. list_any (λ w. is_some w.deadline) ls.waiting) e ∙ any_waits (λ w. is_some w.deadline) (λ t. refl) l.waiting)
+    ∙ ap {A = Objects} (λ p. (Stuck, p)) (sym same))
+
+-- ---- the thread that is picked
 -- A thread in the ready list has a home, where the objects stayed.
-pub ready_home : (o o1 : Objects) (place t : ℕ) → IsSound o → slice_get o.ready place ≡ Some t → o1.live ≡ o.live → HasHome o1 t
+pub ready_home : (o o1 : Objects) (place t : ℕ) → IsSound o → slice_get o.lists.ready place ≡ Some t → o1.live ≡ o.live → HasHome o1 t
 ready_home o o1 place t sound at same =
     let home = ready_thread o place t sound at in
     record {
@@ -41,12 +73,12 @@ stays_some false x y some = some
 
 pub there_after : (o o' : Objects) (t p : ℕ) (x y : Object) → object_at o t ≡ Some y → o' ≡ with_object o p x → is_some (object_at o' t) ≡ true
 there_after o o' t p x y some e =
-    ap (λ q. is_some (object_at q t)) e ∙ ap is_some (get_set o.live p x t) ∙ stays_some (t == p) x (object_at o t) (ap is_some some)
+    ap (λ q. is_some (object_at q t)) e ∙ ap is_some (get-insert o.live p x t) ∙ stays_some (t == p) x (object_at o t) (ap is_some some)
 
 -- A thread ran in pages that were taken out, and then put back.
 pub ran_slice : (o o1 o2 o3 : Objects) (t : ℕ) (slice : Slice) (context : Context) (s s' : Space) → object_at o t ≡ Some (Thread slice.process context) → Took o slice.process o1 s
     → run_space o.settings.slice context s ≡ record { context = slice.context; space = s'; trap = trap_of slice.ended }
-    → o2 ≡ with_object o1 slice.process (Process s' None) → o3 ≡ with_object o2 t (Thread slice.process slice.context) → RunsSlice o t slice o3
+    → o2 ≡ with_pages o1 slice.process s' → o3 ≡ with_object o2 t (Thread slice.process slice.context) → RunsSlice o t slice o3
 ran_slice o o1 o2 o3 t slice context s s' is took led put set = record {
   context = context;
   memory = s;

@@ -1,21 +1,23 @@
 -- The pages of a process: taken out of the objects for a while, and what their refusals answer.
-use Rattle.std.specs.Prelude.{◌≡◌, ℕ, false, Result, Ok, Err}
+use Rattle.std.specs.Prelude.{◌≡◌, ℕ, Result, Ok, Err}
+use Rattle.std.specs.FinMap.{empty}
 use Rattle.std.specs.declared.option.Option.TheVariants.{None, Some}
 use Rattle.bas_edge.specs.declared.errors.Memory.{Memory}
 use Rattle.bas_edge.specs.Errors.{memory}
 use Rattle.guest_space.specs.Space.{Space}
 use Rattle.guest_space.specs.Access.{AccessFault, Missing, Forbidden}
 use Rattle.guest_memory.specs.declared.error.PageError.{PageError}
-use Rattle.guest_memory.specs.declared.error.PageError.TheVariants.{Overlap, Unmapped, Denied, Range, Full, Memory as NoMemory}
+use Rattle.guest_memory.specs.declared.error.PageError.TheVariants.{Overlap, Full, Memory as NoMemory}
 use Rattle.abi_calls.specs.declared.reply.Reply.{Reply}
 use Rattle.abi_calls.specs.declared.reply.Reply.TheVariants.{Exists, NoRoom, NoAccess, BadAddress}
-use Rattle.abi_calls.specs.declared.object.Object.TheVariants.{Process, Event}
-use Rattle.abi_calls.specs.Objects.{Objects, object_at, with_object, running}
+use Rattle.abi_calls.specs.declared.object.Object.TheVariants.{Process}
+use Rattle.abi_calls.specs.Objects.{Objects, object_at, running}
+use Rattle.abi_calls.specs.Memory.{with_pages}
 
--- A process runs, and something else stands in its place.
+-- A process runs, and is left without its pages.
 pub record Took (o : Objects) (process : ℕ) (o' : Objects) (memory : Space) : Type 0 where
   pub was : object_at o process ≡ Some (Process memory None)
-  pub now : o' ≡ with_object o process (Event false)
+  pub now : o' ≡ with_pages o process empty
 
 -- No such process runs, and nothing changed.
 pub record HasNone (o : Objects) (process : ℕ) (o' : Objects) : Type 0 where
@@ -26,10 +28,8 @@ pub record HasNone (o : Objects) (process : ℕ) (o' : Objects) : Type 0 where
 abbrev pub allocate_result : PageError → Result Reply Memory
 allocate_result (Overlap page) = Ok Exists
 allocate_result Full = Ok NoRoom
-allocate_result Range = Ok BadAddress
-allocate_result (Unmapped page) = Ok BadAddress
-allocate_result (Denied page) = Ok BadAddress
 allocate_result NoMemory = Err memory
+allocate_result _ = Ok BadAddress
 
 -- What an access answers at a byte that isn't there or lacks the right.
 abbrev pub access_reply : AccessFault → Reply

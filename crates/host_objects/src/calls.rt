@@ -1,21 +1,24 @@
-ghost use Rattle.std.specs.Prelude.{◌≡◌, IfOk, OnErr};
-ghost use Rattle.abi_calls.specs.Sound.{IsSound};
-ghost use Rattle.host_objects.specs.Objects.{objects_of, Serves};
+ghost use Rattle.std.specs.Prelude.{◌≡◌, true, false, IfOk, OnErr};
+ghost use Rattle.abi_calls.specs.Abi.{is_outside, takes_memory};
+ghost use Rattle.abi_calls.specs.Sound.{IsSound, HasBytes};
+ghost use Rattle.host_objects.specs.System.{system_objects};
+ghost use Rattle.host_objects.specs.Rows.{Row};
 
 use crate::numbers::Numbers;
-use crate::objects::Objects;
+use crate::system::System;
 use abi_calls::{Call, Reply};
 use bas_edge::Memory;
 
-impl<N: Numbers + Drop> Objects<N> {
-    /// Answers a call from the objects alone; `None` for the calls that reach outside, which are StreamOpen,
-    /// StreamRead, StreamWrite and StreamLength. After an `Err` all is as before.
-    #[tactic(auto, using(crate::proofs::Rows::row_sound))]
-    pub fn call(&mut self, call: &Call) -> Result<Option<Reply>, Memory>
-        requires { IsSound (objects_of self.old) }
-        ensures row { IfOk result (λ reply. Serves (objects_of self.old) call.now reply (objects_of self.new)) }
-        ensures same { OnErr result (objects_of self.new ≡ objects_of self.old) }
-        ensures sound { IsSound (objects_of self.new) }
+impl<N: Numbers + Drop> System<N> {
+    /// Answers a call that reaches nothing of the outside. After an `Err` all is as before.
+    pub(crate) fn call(&mut self, call: &Call) -> Result<Reply, Memory>
+        requires sound { IsSound (system_objects self.old) }
+        requires inside { is_outside (system_objects self.old) call.now ≡ false }
+        ensures row { IfOk result (λ reply.
+            Row (system_objects self.old) call.now reply (system_objects self.new)) }
+        ensures same { OnErr result (system_objects self.new ≡ system_objects self.old) }
+        ensures memory { OnErr result (takes_memory call.now ≡ true) }
+        ensures bytes { HasBytes call.now }
     {
         match call {
             Call::MemoryAllocate {
@@ -23,58 +26,38 @@ impl<N: Numbers + Drop> Objects<N> {
                 page,
                 count,
                 rights,
-            } => {
-                let reply = self.memory_allocate(*process, *page, *count, *rights)?;
-                Ok(Some(reply))
-            }
+            } => self.memory_allocate(*process, *page, *count, *rights),
             Call::MemoryProtect {
                 process,
                 page,
                 count,
                 rights,
-            } => { Ok(Some(self.memory_protect(*process, *page, *count, *rights))) }
+            } => Ok(self.memory_protect(*process, *page, *count, *rights)),
             Call::MemoryRead {
                 process,
                 address,
                 count,
-            } => {
-                let reply = self.memory_read(*process, *address, *count)?;
-                Ok(Some(reply))
-            }
+            } => self.memory_read(*process, *address, *count),
             Call::MemoryWrite {
                 process,
                 address,
                 bytes,
-            } => { Ok(Some(self.memory_write(*process, *address, bytes.as_slice()))) }
-            Call::ThreadCreate { process, context } => {
-                let reply = self.thread_create(*process, *context)?;
-                Ok(Some(reply))
-            }
-            Call::ThreadResume { thread } => Ok(Some(self.thread_resume(*thread))),
-            Call::ThreadContext { thread, context } => Ok(Some(self.thread_context(
-                *thread, *context,
-            ))),
-            Call::EventCreate => {
-                let reply = self.event_create()?;
-                Ok(Some(reply))
-            }
-            Call::Close { handle } => Ok(Some(self.close(*handle))),
-            Call::ProcessCreate => {
-                let reply = self.process_create()?;
-                Ok(Some(reply))
-            }
-            Call::ProcessExit { process, code } => Ok(Some(self.process_exit(*process, *code))),
+            } => Ok(self.memory_write(*process, *address, bytes.as_slice())),
+            Call::ThreadCreate { process, context } => self.thread_create(*process, *context),
+            Call::ThreadResume { thread } => Ok(self.thread_resume(*thread)),
+            Call::ThreadContext { thread, context } => Ok(self.thread_context(*thread, *context)),
+            Call::EventCreate => self.event_create(),
+            Call::Close { handle } => Ok(self.close(*handle)),
+            Call::ProcessCreate => self.process_create(),
+            Call::ProcessExit { process, code } => Ok(self.process_exit(*process, *code)),
             Call::Configure {
                 settings,
                 positions,
-            } => {
-                let reply = self.configure(settings, *positions)?;
-                Ok(Some(reply))
+            } => self.configure(settings, *positions),
+            Call::StreamRead { .. } | Call::StreamWrite { .. } | Call::StreamLength { .. } => {
+                Ok(Reply::BadHandle)
             }
-            Call::StreamOpen { .. }
-            | Call::StreamRead { .. }
-            | Call::StreamWrite { .. }
-            | Call::StreamLength { .. } => Ok(None),
+            Call::StreamOpen { .. } => unreachable!(),
         }
     }
 }

@@ -3,7 +3,6 @@ ghost use Rattle.std.specs.Option.{option_copied};
 ghost use Rattle.std.specs.FinMap as map;
 ghost use Rattle.std.specs.List.{list_any};
 ghost use Rattle.std.specs.Map.Iter.{ShowsInOrder, deref};
-ghost use Rattle.host_objects.specs.Numbers.{IsUnused};
 ghost use Rattle.host_objects.specs.Handles.{Adds};
 
 use crate::numbers::Numbers;
@@ -36,9 +35,8 @@ impl<N: Numbers, V> Model for Handles<N, V> {
 }
 
 impl<N: Numbers + Drop, V: Drop> Handles<N, V> {
-    /// No value, over numbers of which none is live.
+    /// No value. Numbers that are live already are never given.
     pub(crate) fn new(alloc: Global, numbers: N) -> Handles<N, V>
-        requires { IsUnused (N.is_live numbers) }
         ensures { result ≡ map.empty }
     {
         Handles {

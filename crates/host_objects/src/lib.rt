@@ -11,7 +11,7 @@ mod numbers;
 mod objects;
 mod processes;
 mod settings;
-mod streams;
+mod system;
 mod table;
 mod threads;
 mod turns;
@@ -19,6 +19,3 @@ mod turns;
 pub use counting::Counting;
 pub use numbers::Numbers;
 pub use objects::Objects;
-
-#[cfg(test)]
-mod tests;

@@ -1,20 +1,19 @@
-ghost use Rattle.std.specs.Prelude.{◌≡◌, ◌<◌, IfOk, OnErr, IsSome, MatchOption};
+ghost use Rattle.std.specs.Prelude.{◌≡◌, ◌<◌, ◌^◌, All, length, nat_le, IfOk, OnErr, IsSome, MatchOption};
 ghost use Rattle.abi_calls.specs.declared.call.Call.TheVariants.{MemoryAllocate, MemoryProtect, MemoryRead, MemoryWrite};
-ghost use Rattle.abi_calls.specs.declared.object.Object.TheVariants as objects;
-ghost use Rattle.abi_calls.specs.Objects.{object_at, with_object};
-ghost use Rattle.host_objects.specs.Objects.{objects_of, Row};
+ghost use Rattle.abi_calls.specs.Objects.{object_at};
+ghost use Rattle.abi_calls.specs.Memory.{with_pages};
+ghost use Rattle.host_objects.specs.System.{system_objects};
+ghost use Rattle.host_objects.specs.Rows.{Row};
 ghost use Rattle.guest_memory.specs.Refusals.{fault_of_error};
 ghost use Rattle.host_objects.specs.Taken.{Took, HasNone, allocate_result, access_reply};
 
 use crate::numbers::Numbers;
-use crate::objects::Objects;
+use crate::system::System;
+use abi_calls::limits::MOST_BYTES;
 use abi_calls::{Object, Reply};
 use bas_edge::Memory;
 use bas_items::Items;
 use guest_memory::{PageError, Pages};
-
-/// The most bytes of a read or a write.
-const MOST_BYTES: usize = 65536;
 
 /// What an allocation answers that the pages refuse.
 fn unallocated(error: PageError) -> Result<Reply, Memory>
@@ -28,6 +27,14 @@ fn unallocated(error: PageError) -> Result<Reply, Memory>
     }
 }
 
+/// Whether one call may write so many bytes.
+fn is_within_limit(bytes: &[u8]) -> bool
+    ensures limit { result ≡ nat_le (length bytes.now) MOST_BYTES }
+    ensures bytes { All (λ byte. byte < 2 ^ 8) bytes.now }
+{
+    bytes.len() as u64 <= MOST_BYTES
+}
+
 /// What an access answers that the pages refuse.
 fn inaccessible(error: PageError) -> Reply
     ensures { result ≡ access_reply (fault_of_error error) }
@@ -38,16 +45,22 @@ fn inaccessible(error: PageError) -> Reply
     }
 }
 
-impl<N: Numbers + Drop> Objects<N> {
-    /// Takes the pages of a process that runs out of it; they are put back by `put_memory`. `None` where there
-    /// is no such process.
+impl<N: Numbers + Drop> System<N> {
+    /// Takes the pages of a process that runs out of it; they are put back by `put_memory`, and until then the
+    /// process has none. `None` where there is no such process.
     pub(crate) fn take_memory(&mut self, process: u64) -> Option<Pages>
-        ensures { MatchOption result (HasNone (objects_of self.old) process (objects_of self.new)) (Took (objects_of self.old) process (objects_of self.new)) }
+        ensures { MatchOption result
+            (HasNone (system_objects self.old) process (system_objects self.new))
+            (Took (system_objects self.old) process (system_objects self.new)) }
     {
         if self.memory(process).is_none() {
             return None;
         }
-        match self.handles.replace(process, Object::Event { set: false }) {
+        let emptied = Object::Process {
+            memory: Pages::new(self.alloc),
+            code: None,
+        };
+        match self.handles.replace(process, emptied) {
             Object::Process { memory, code: None } => Some(memory),
             _ => unreachable!(),
         }
@@ -55,8 +68,8 @@ impl<N: Numbers + Drop> Objects<N> {
 
     /// Puts pages back into their process.
     pub(crate) fn put_memory(&mut self, process: u64, memory: Pages)
-        requires { IsSome (object_at (objects_of self.old) process) }
-        ensures { objects_of self.new ≡ with_object (objects_of self.old) process (objects.Process memory None) }
+        requires { IsSome (object_at (system_objects self.old) process) }
+        ensures { system_objects self.new ≡ with_pages (system_objects self.old) process memory }
     {
         self.handles
             .set(process, Object::Process { memory, code: None });
@@ -70,8 +83,8 @@ impl<N: Numbers + Drop> Objects<N> {
         count: u64,
         rights: u8,
     ) -> Result<Reply, Memory>
-        ensures row { IfOk result (λ reply. Row (objects_of self.old) (MemoryAllocate process page count rights) reply (objects_of self.new)) }
-        ensures same { OnErr result (objects_of self.new ≡ objects_of self.old) }
+        ensures row { IfOk result (λ reply. Row (system_objects self.old) (MemoryAllocate process page count rights) reply (system_objects self.new)) }
+        ensures same { OnErr result (system_objects self.new ≡ system_objects self.old) }
     {
         let Some(mut memory) = self.take_memory(process) else {
             return Ok(Reply::BadHandle);
@@ -92,7 +105,7 @@ impl<N: Numbers + Drop> Objects<N> {
         count: u64,
         rights: u8,
     ) -> Reply
-        ensures { Row (objects_of self.old) (MemoryProtect process page count rights) result (objects_of self.new) }
+        ensures { Row (system_objects self.old) (MemoryProtect process page count rights) result (system_objects self.new) }
     {
         let Some(mut memory) = self.take_memory(process) else {
             return Reply::BadHandle;
@@ -114,16 +127,15 @@ impl<N: Numbers + Drop> Objects<N> {
         address: u64,
         count: u64,
     ) -> Result<Reply, Memory>
-        ensures { IfOk result (λ reply. Row (objects_of self.now) (MemoryRead process address count) reply (objects_of self.now)) }
+        ensures { IfOk result (λ reply. Row (system_objects self.now) (MemoryRead process address count) reply (system_objects self.now)) }
     {
         let Some(memory) = self.memory(process) else {
             return Ok(Reply::BadHandle);
         };
-        let count = count as usize;
         if count > MOST_BYTES {
             return Ok(Reply::TooBig);
         }
-        let mut bytes = vec![in self.alloc; 0u8; count]?;
+        let mut bytes = vec![in self.alloc; 0u8; count as usize]?;
         match memory.read(address, &mut bytes) {
             Ok(()) => Ok(Reply::Bytes(Items::from_vec(bytes))),
             Err(error) => Ok(inaccessible(error)),
@@ -132,12 +144,14 @@ impl<N: Numbers + Drop> Objects<N> {
 
     /// MemoryWrite.
     pub(crate) fn memory_write(&mut self, process: u64, address: u64, bytes: &[u8]) -> Reply
-        ensures { Row (objects_of self.old) (MemoryWrite process address bytes.now) result (objects_of self.new) }
+        ensures row { Row (system_objects self.old) (MemoryWrite process address bytes.now) result (system_objects self.new) }
+        ensures bytes { All (λ byte. byte < 2 ^ 8) bytes.now }
     {
+        let fits = is_within_limit(bytes);
         if self.memory(process).is_none() {
             return Reply::BadHandle;
         }
-        if bytes.len() > MOST_BYTES {
+        if !fits {
             return Reply::TooBig;
         }
         let Some(mut memory) = self.take_memory(process) else {

@@ -1,119 +1,107 @@
-ghost use Rattle.std.specs.Prelude.{◌≡◌, ◌↔◌, ℕ, IsTrue, IfOk, OnErr};
-ghost use Rattle.std.specs.Option.{option_copied, option_map};
-ghost use Rattle.std.specs.FinMap.{empty};
-ghost use Rattle.abi_calls.specs.Objects.{running, object_at, number_of};
-ghost use Rattle.abi_calls.specs.Objects as kinds;
-ghost use Rattle.abi_calls.specs.Processes as processes;
 ghost use Rattle.abi_calls.specs.Sound.{IsSound};
-ghost use Rattle.host_objects.specs.Numbers.{IsUnused};
-ghost use Rattle.host_objects.specs.Objects.{objects_of, untouched};
+ghost use Rattle.abi_calls.proofs.SoundProp.{IsSound-prop};
+ghost use Rattle.host_objects.specs.System.{system_objects};
 
-use crate::handles::Handles;
-use crate::kinds::{is_process, is_running, is_thread};
 use crate::numbers::Numbers;
-use abi_calls::{Object, Positions, Settings};
-use bas_items::Items;
-use guest_memory::Pages;
+use crate::system::System;
+use abi_calls::{Call, Object, Positions, Reply, StreamName, Turned};
+use bas_edge::Memory;
 use std::alloc::Global;
-use turn_sched::Schedule;
 
-/// The objects of a host, the lists of threads, the positions and the settings.
+/// The objects of a host, the lists of threads, the positions and the settings. They are sound at any moment.
 #[derive(Drop)]
 pub struct Objects<N: Numbers> {
-    pub(crate) handles: Handles<N, Object<Pages>>,
-    pub(crate) schedule: Schedule,
-    pub(crate) positions: Positions,
-    pub(crate) settings: Settings,
-    pub(crate) alloc: Global,
-}
-
-/// How many objects of each kind there are.
-#[derive(Clone, Copy)]
-pub(crate) struct Census {
-    /// The processes whose handle is live, exited ones too.
-    pub(crate) processes: usize,
-    /// The processes that haven't exited.
-    pub(crate) running: usize,
-    pub(crate) threads: usize,
+    system: System<N>,
+    ghost sound: { IsSound (system_objects system) } by { IsSound-prop (system_objects system) },
 }
 
 impl<N: Numbers + Drop> Objects<N> {
-    /// No object, over numbers of which none is live, at position 0 and with the least settings. Takes no
-    /// memory.
+    ghost use Rattle.std.specs.Prelude.{◌≡◌, ◌↔◌, true, false, IsTrue, IfOk, OnErr};
+    ghost use Rattle.std.specs.Option.{option_copied};
+    ghost use Rattle.abi_calls.specs.declared.object.Object.TheVariants.{Stream};
+    ghost use Rattle.abi_calls.specs.Objects.{object_at, with_object, IsFresh};
+    ghost use Rattle.abi_calls.specs.Abi.{is_outside, takes_memory};
+    ghost use Rattle.abi_calls.specs.Fresh.{IsFreshWorld};
+    ghost use Rattle.abi_calls.specs.Sound.{IsSound, is_sound_name};
+    ghost use Rattle.abi_calls.specs.Streams.{stream_of};
+    ghost use Rattle.abi_calls.specs.Turn.{world_turn};
+    ghost use Rattle.host_objects.specs.Objects.{objects_of, untouched};
+    ghost use Rattle.host_objects.specs.Rows.{Row};
+
+    /// No object, at position 0 and with the least settings. Takes no memory.
     pub fn new(alloc: Global, numbers: N) -> Objects<N>
-        requires { IsUnused (N.is_live numbers) }
-        ensures untouched { objects_of result ≡ untouched }
-        ensures sound { IsSound (objects_of result) }
+        ensures { objects_of result ≡ untouched }
     {
         Objects {
-            handles: Handles::new(alloc, numbers),
-            schedule: Schedule::new(alloc),
-            positions: Positions {
-                turns: 0,
-                pick: 0,
-                random: 0,
-            },
-            settings: Settings {
-                start: 0,
-                step: 0,
-                salt: 0,
-                slice: 1,
-                picks: Items::new(alloc),
-                randoms: Items::new(alloc),
-            },
-            alloc,
+            system: System::new(alloc, numbers),
         }
     }
 
-    /// Whether there is no object.
-    pub fn is_empty(&self) -> bool
-        ensures { IsTrue result ↔ ((objects_of self.now).live ≡ empty) }
+    /// The objects are sound at any moment.
+    pub fn are_sound(&self)
+        ensures { IsSound (objects_of self.now) }
+    {}
+
+    /// Answers a call that reaches nothing of the outside. After an `Err` all is as before.
+    ///
+    /// # Errors
+    /// `Memory`, only for the calls that make something or give bytes back.
+    pub fn call(&mut self, call: &Call) -> Result<Reply, Memory>
+        requires { is_outside (objects_of self.old) call.now ≡ false }
+        ensures row { IfOk result (λ reply.
+            Row (objects_of self.old) call.now reply (objects_of self.new)) }
+        ensures same { OnErr result (objects_of self.new ≡ objects_of self.old) }
+        ensures memory { OnErr result (takes_memory call.now ≡ true) }
     {
-        self.handles.is_empty()
+        self.system.call(call)
+    }
+
+    /// Makes a turn: the ready thread that the next word of the tape picks does up to `slice` instructions, and
+    /// joins the end of the ready ones, or is current if it trapped. Takes no memory.
+    pub fn turn(&mut self) -> Turned
+        requires { (objects_of self.old).lists.current ≡ None }
+        ensures { world_turn (objects_of self.old) ≡ (result, objects_of self.new) }
+    {
+        self.system.turn()
+    }
+
+    /// What a stream is opened on.
+    pub fn stream(&self, handle: u64) -> Option<&StreamName>
+        ensures { option_copied result ≡ stream_of (object_at (objects_of self.now) handle) }
+    {
+        match self.system.handles.get(handle) {
+            Some(Object::Stream(name)) => Some(name),
+            _ => None,
+        }
+    }
+
+    /// Opens a stream under a new handle. After an `Err` all is as before.
+    pub fn add_stream(&mut self, name: StreamName) -> Result<u64, Memory>
+        requires { is_sound_name name ≡ true }
+        ensures fresh { IfOk result (IsFresh (objects_of self.old)) }
+        ensures added { IfOk result (λ handle.
+            objects_of self.new ≡ with_object (objects_of self.old) handle (Stream name)) }
+        ensures same { OnErr result (objects_of self.new ≡ objects_of self.old) }
+    {
+        self.system.handles.add(Object::Stream(name))
     }
 
     /// How many turns were made, and how many words of the tapes were used.
     pub fn positions(&self) -> Positions
         ensures { result ≡ (objects_of self.now).positions }
     {
-        self.positions
+        self.system.positions
     }
 
-    /// The current thread.
-    pub fn current(&self) -> Option<u64>
-        ensures { result ≡ (objects_of self.now).current }
+    /// Whether there is no object and all positions are 0.
+    pub fn is_fresh(&self) -> bool
+        ensures { IsTrue result ↔ IsFreshWorld (objects_of self.now) 0 }
     {
-        self.schedule.current()
-    }
-
-    /// The memory of a process that hasn't exited.
-    pub(crate) fn memory(&self, process: u64) -> Option<&Pages>
-        ensures { option_copied result ≡ running (object_at (objects_of self.now) process) }
-    {
-        match self.handles.get(process) {
-            Some(Object::Process { memory, code: None }) => Some(memory),
-            _ => None,
-        }
-    }
-
-    /// How many objects of each kind there are.
-    pub(crate) fn census(&self) -> Census
-        ensures processes { result.processes ≡ number_of kinds.is_process (objects_of self.now).live }
-        ensures running { result.running ≡ number_of processes.is_running (objects_of self.now).live }
-        ensures threads { result.threads ≡ number_of kinds.is_thread (objects_of self.now).live }
-    {
-        let mut processes = 0;
-        let mut running = 0;
-        let mut threads = 0;
-        for object in self.handles.values() {
-            processes += usize::from(is_process(object));
-            running += usize::from(is_running(object));
-            threads += usize::from(is_thread(object));
-        }
-        Census {
-            processes,
-            running,
-            threads,
-        }
+        let Positions {
+            turns,
+            pick,
+            random,
+        } = self.system.positions;
+        self.system.handles.is_empty() & (turns == 0) & (pick == 0) & (random == 0)
     }
 }

@@ -1,33 +1,31 @@
-ghost use Rattle.std.specs.Prelude.{◌≡◌, ◌↔◌, true, IfOk, IfSome, IfNone, OnErr, IsTrue};
+ghost use Rattle.std.specs.Prelude.{◌≡◌, true, IfOk, IfSome, IfNone, OnErr};
 ghost use Rattle.abi_calls.specs.declared.call.Call.TheVariants.{Close, ProcessCreate, ProcessExit, Configure};
 ghost use Rattle.abi_calls.specs.Objects.{object_at, is_thread_of};
 ghost use Rattle.abi_calls.specs.Processes.{without_threads};
-ghost use Rattle.abi_calls.specs.Fresh.{IsFreshWorld};
 ghost use Rattle.abi_calls.specs.Sound.{IsSound};
-ghost use Rattle.host_objects.specs.Objects.{objects_of, Row, HasNoThread};
+ghost use Rattle.host_objects.specs.System.{system_objects};
+ghost use Rattle.host_objects.specs.Rows.{Row, HasNoThread};
 
+use crate::kinds::{is_running, is_thread};
 use crate::numbers::Numbers;
-use crate::objects::Objects;
 use crate::settings::{copied, is_acceptable};
+use crate::system::System;
+use abi_calls::limits::MOST_PROCESSES;
 use abi_calls::{Object, Positions, Reply, Settings};
 use bas_edge::Memory;
 use guest_memory::Pages;
 
-/// The most processes that may have a live handle.
-const MOST_PROCESSES: usize = 16;
-
-impl<N: Numbers + Drop> Objects<N> {
+impl<N: Numbers + Drop> System<N> {
     /// Close.
-    #[tactic(auto, using(crate::proofs::Rows::closed_row))]
+    #[tactic(auto, using(crate::proofs::Rows::busy_row, crate::proofs::Rows::closed_row))]
     pub(crate) fn close(&mut self, handle: u64) -> Reply
-        ensures { Row (objects_of self.old) (Close handle) result (objects_of self.new) }
+        ensures { Row (system_objects self.old) (Close handle) result (system_objects self.new) }
     {
-        match self.handles.get(handle) {
-            None => return Reply::BadHandle,
-            Some(Object::Thread { .. } | Object::Process { code: None, .. }) => return Reply::Busy,
-            Some(
-                Object::Process { code: Some(_), .. } | Object::Event { .. } | Object::Stream(_),
-            ) => {}
+        let Some(object) = self.handles.get(handle) else {
+            return Reply::BadHandle;
+        };
+        if is_thread(object) | is_running(object) {
+            return Reply::Busy;
         }
         self.handles.end(handle);
         self.schedule.leave(handle);
@@ -36,9 +34,9 @@ impl<N: Numbers + Drop> Objects<N> {
 
     /// ProcessCreate.
     pub(crate) fn process_create(&mut self) -> Result<Reply, Memory>
-        requires { IsSound (objects_of self.old) }
-        ensures row { IfOk result (λ reply. Row (objects_of self.old) ProcessCreate reply (objects_of self.new)) }
-        ensures same { OnErr result (objects_of self.new ≡ objects_of self.old) }
+        requires { IsSound (system_objects self.old) }
+        ensures row { IfOk result (λ reply. Row (system_objects self.old) ProcessCreate reply (system_objects self.new)) }
+        ensures same { OnErr result (system_objects self.new ≡ system_objects self.old) }
     {
         if self.census().processes >= MOST_PROCESSES {
             return Ok(Reply::NoRoom);
@@ -50,7 +48,7 @@ impl<N: Numbers + Drop> Objects<N> {
 
     /// ProcessExit.
     pub(crate) fn process_exit(&mut self, process: u64, code: u8) -> Reply
-        ensures { Row (objects_of self.old) (ProcessExit process code) result (objects_of self.new) }
+        ensures { Row (system_objects self.old) (ProcessExit process code) result (system_objects self.new) }
     {
         if self.memory(process).is_none() {
             return Reply::BadHandle;
@@ -66,7 +64,7 @@ impl<N: Numbers + Drop> Objects<N> {
 
     /// Ends the threads of a process.
     fn end_threads(&mut self, process: u64)
-        ensures { objects_of self.new ≡ without_threads (objects_of self.old) process }
+        ensures { system_objects self.new ≡ without_threads (system_objects self.old) process }
     {
         while let Some(thread) = self.thread_of(process) {
             self.handles.end(thread);
@@ -76,8 +74,8 @@ impl<N: Numbers + Drop> Objects<N> {
 
     /// The first thread of a process.
     fn thread_of(&self, process: u64) -> Option<u64>
-        ensures found { IfSome result (λ thread. is_thread_of process (object_at (objects_of self.now) thread) ≡ true) }
-        ensures none { IfNone result (HasNoThread (objects_of self.now) process) }
+        ensures found { IfSome result (λ thread. is_thread_of process (object_at (system_objects self.now) thread) ≡ true) }
+        ensures none { IfNone result (HasNoThread (system_objects self.now) process) }
     {
         for number in self.handles.numbers() {
             if self.is_thread_of(*number, process) {
@@ -89,7 +87,7 @@ impl<N: Numbers + Drop> Objects<N> {
 
     /// Whether a number is that of a thread of a process.
     fn is_thread_of(&self, number: u64, process: u64) -> bool
-        ensures { result ≡ is_thread_of process (object_at (objects_of self.now) number) }
+        ensures { result ≡ is_thread_of process (object_at (system_objects self.now) number) }
     {
         match self.handles.get(number) {
             Some(Object::Thread { process: home, .. }) => *home == process,
@@ -103,8 +101,8 @@ impl<N: Numbers + Drop> Objects<N> {
         settings: &Settings,
         positions: Positions,
     ) -> Result<Reply, Memory>
-        ensures row { IfOk result (λ reply. Row (objects_of self.old) (Configure settings.now positions) reply (objects_of self.new)) }
-        ensures same { OnErr result (objects_of self.new ≡ objects_of self.old) }
+        ensures row { IfOk result (λ reply. Row (system_objects self.old) (Configure settings.now positions) reply (system_objects self.new)) }
+        ensures same { OnErr result (system_objects self.new ≡ system_objects self.old) }
     {
         if !is_acceptable(settings) {
             return Ok(Reply::TooBig);
@@ -115,17 +113,5 @@ impl<N: Numbers + Drop> Objects<N> {
         self.settings = copied(self.alloc, settings)?;
         self.positions = positions;
         Ok(Reply::Done)
-    }
-
-    /// Whether there is no object and all positions are 0.
-    pub fn is_fresh(&self) -> bool
-        ensures { IsTrue result ↔ IsFreshWorld (objects_of self.now) 0 }
-    {
-        let Positions {
-            turns,
-            pick,
-            random,
-        } = self.positions;
-        self.handles.is_empty() & (turns == 0) & (pick == 0) & (random == 0)
     }
 }

@@ -2,12 +2,10 @@ ghost use Rattle.std.specs.Prelude.{◌≡◌, IfOk};
 ghost use Rattle.abi_calls.specs.Processes as processes;
 
 use abi_calls::Settings;
+use abi_calls::limits::{MOST_SLICE, MOST_WORDS};
 use bas_edge::Memory;
 use bas_items::Items;
 use std::alloc::Global;
-
-/// The most instructions of a turn, and the most words of a tape.
-const MOST: u64 = 65536;
 
 /// Whether a host takes the settings.
 pub(crate) fn is_acceptable(settings: &Settings) -> bool
@@ -16,7 +14,7 @@ pub(crate) fn is_acceptable(settings: &Settings) -> bool
     let slice = u64::from(settings.slice);
     let picks = settings.picks.len() as u64;
     let randoms = settings.randoms.len() as u64;
-    (slice > 0) & (slice <= MOST) & (picks <= MOST) & (randoms <= MOST)
+    (slice > 0) & (slice <= MOST_SLICE) & (picks <= MOST_WORDS) & (randoms <= MOST_WORDS)
 }
 
 /// The same settings, with tapes of their own.

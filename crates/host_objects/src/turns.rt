@@ -1,13 +1,13 @@
-ghost use Rattle.std.specs.Prelude.{◌≡◌, slice_index};
+ghost use Rattle.std.specs.Prelude.{◌≡◌};
 ghost use Rattle.abi_calls.specs.declared.object.Object.TheVariants.{Thread};
 ghost use Rattle.abi_calls.specs.Objects.{object_at};
 ghost use Rattle.abi_calls.specs.Sound.{IsSound};
-ghost use Rattle.abi_calls.specs.Turn.{turned};
-ghost use Rattle.host_objects.specs.Objects.{objects_of};
+ghost use Rattle.abi_calls.specs.Turn.{world_turn, pick_word};
+ghost use Rattle.host_objects.specs.System.{system_objects};
 ghost use Rattle.host_objects.specs.Turns.{HasHome, RunsSlice};
 
 use crate::numbers::Numbers;
-use crate::objects::Objects;
+use crate::system::System;
 use abi_calls::{Object, Turned, Upcall};
 use rv_core::{Context, Ended};
 
@@ -19,14 +19,13 @@ struct Slice {
     ended: Ended,
 }
 
-impl<N: Numbers + Drop> Objects<N> {
+impl<N: Numbers + Drop> System<N> {
     /// Makes a turn: the ready thread that the next word of the tape picks does up to `slice` instructions, and
     /// joins the end of the ready ones, or is current if it trapped. Takes no memory.
-    pub fn turn(&mut self) -> Turned
-        requires sound { IsSound (objects_of self.old) }
-        requires idle { (objects_of self.old).current ≡ None }
-        ensures turned { turned (objects_of self.old) ≡ (result, objects_of self.new) }
-        ensures sound { IsSound (objects_of self.new) }
+    pub(crate) fn turn(&mut self) -> Turned
+        requires sound { IsSound (system_objects self.old) }
+        requires idle { (system_objects self.old).lists.current ≡ None }
+        ensures { world_turn (system_objects self.old) ≡ (result, system_objects self.new) }
     {
         let word = self.word();
         let Some(thread) = self.schedule.pick(word) else {
@@ -52,7 +51,7 @@ impl<N: Numbers + Drop> Objects<N> {
 
     /// The next word of the tape of picks; 0 past its end.
     fn word(&self) -> u64
-        ensures { result ≡ slice_index (objects_of self.now).settings.picks (objects_of self.now).positions.pick }
+        ensures { result ≡ pick_word (system_objects self.now) }
     {
         match self.settings.picks.get(self.positions.pick as usize) {
             Some(word) => *word,
@@ -62,8 +61,8 @@ impl<N: Numbers + Drop> Objects<N> {
 
     /// The process and the registers of a thread.
     fn home(&self, thread: u64) -> (u64, Context)
-        requires { HasHome (objects_of self.now) thread }
-        ensures { object_at (objects_of self.now) thread ≡ Some (Thread result.0 result.1) }
+        requires { HasHome (system_objects self.now) thread }
+        ensures { object_at (system_objects self.now) thread ≡ Some (Thread result.0 result.1) }
     {
         match self.handles.get(thread) {
             Some(Object::Thread { process, context }) => (*process, *context),
@@ -73,8 +72,8 @@ impl<N: Numbers + Drop> Objects<N> {
 
     /// Runs a thread in the pages of its process.
     fn run(&mut self, thread: u64) -> Slice
-        requires { HasHome (objects_of self.old) thread }
-        ensures { RunsSlice (objects_of self.old) thread result (objects_of self.new) }
+        requires { HasHome (system_objects self.old) thread }
+        ensures { RunsSlice (system_objects self.old) thread result (system_objects self.new) }
     {
         let most = self.settings.slice;
         let (process, mut context) = self.home(thread);

@@ -187,7 +187,7 @@ impl Schedule {
         ensures picked { result ≡ picked_by word self.old.lists }
         ensures some { IfSome result (λ key.
             self.new.lists ≡ with_picked self.old.lists (picked_place word self.old.lists) key) }
-        ensures none { IfNone result (self.new.lists ≡ self.old.lists) }
+        ensures none { IfNone result (self.new ≡ self.old) }
         ensures spare { self.new.spare ≡ self.old.spare }
         ensures nothing { IsNone result ↔ (self.old.lists.ready ≡ []) }
     {
