@@ -10,40 +10,36 @@ use Rattle.std.proofs.lemmas.Bool.{cond-true}
 use Rattle.std.proofs.lemmas.List.{take_all, drop_at, length-replicate}
 use Rattle.bas_edge.specs.Files.{Files, file_of, file_bytes, file_length, with_file}
 use Rattle.bas_edge.proofs.FilesIn.{get-insert_name, same_name-refl}
-use Rattle.abi_calls.specs.World.{Contents, Told, Tells, StaysTold}
-use Rattle.abi_calls.specs.Abi.{gained, lost}
+use Rattle.abi_calls.specs.World.{Told, Tells, StaysTold, some_contents}
+use Rattle.abi_calls.specs.Failing.{with_text, without_front}
 use Rattle.host_monitor.specs.Edges.{FindsLength, ReadsFile, TakesAsked}
-
--- What is told, and nothing where nothing is.
-abbrev pub supposed : Told → Contents
-supposed t = record { files = unwrap_or t.files empty; input = unwrap_or t.input []; output = unwrap_or t.output []; errors = unwrap_or t.errors [] }
 
 pub tells_or : {A : Type 0} (told : Option A) (otherwise : A) → IfSome told (λ x. x ≡ unwrap_or told otherwise)
 tells_or None otherwise = tt
 tells_or (Some x) otherwise = refl
 
-pub tells_supposed : (t : Told) → Tells t (supposed t)
-tells_supposed t = record { files = tells_or t.files empty; input = tells_or t.input []; output = tells_or t.output []; errors = tells_or t.errors [] }
+pub tells_some : (t : Told) → Tells t (some_contents t)
+tells_some t = record { files = tells_or t.files empty; input = tells_or t.input []; output = tells_or t.output []; errors = tells_or t.errors [] }
 
 pub stays_as_it_is : (t : Told) → StaysTold t t
 stays_as_it_is t = record { files = refl; input = refl; output = refl; errors = refl }
 
 -- The bytes that came to what was written are told, where what was written is.
-pub tells_gained : (told : Option (List ℕ)) (bytes : List ℕ) → IfSome (gained told bytes) (λ x. x ≡ unwrap_or told [] ++ bytes)
-tells_gained None bytes = tt
-tells_gained (Some old) bytes = refl
+pub tells_with_text : (told : Option (List ℕ)) (bytes : List ℕ) → IfSome (with_text told bytes) (λ x. x ≡ unwrap_or told [] ++ bytes)
+tells_with_text None bytes = tt
+tells_with_text (Some old) bytes = refl
 
-pub is_some-gained : (told : Option (List ℕ)) (bytes : List ℕ) → is_some (gained told bytes) ≡ is_some told
-is_some-gained None bytes = refl
-is_some-gained (Some old) bytes = refl
+pub is_some-with_text : (told : Option (List ℕ)) (bytes : List ℕ) → is_some (with_text told bytes) ≡ is_some told
+is_some-with_text None bytes = refl
+is_some-with_text (Some old) bytes = refl
 
-pub tells_lost : (told : Option (List ℕ)) (count : ℕ) (otherwise : List ℕ) → IfSome (lost told count) (λ x. x ≡ drop count (unwrap_or told otherwise))
-tells_lost None count otherwise = tt
-tells_lost (Some old) count otherwise = refl
+pub tells_without_front : (told : Option (List ℕ)) (count : ℕ) (left : List ℕ) → IfSome told (λ x. x ≡ left) → IfSome (without_front told count) (λ x. x ≡ drop count left)
+tells_without_front None count left tells = tt
+tells_without_front (Some old) count left tells = ap (drop count) tells
 
-pub is_some-lost : (told : Option (List ℕ)) (count : ℕ) → is_some (lost told count) ≡ is_some told
-is_some-lost None count = refl
-is_some-lost (Some old) count = refl
+pub is_some-without_front : (told : Option (List ℕ)) (count : ℕ) → is_some (without_front told count) ≡ is_some told
+is_some-without_front None count = refl
+is_some-without_front (Some old) count = refl
 
 -- What came is the front of what was there, or of itself where that isn't told.
 pub take-asked : {told told' : Option (List ℕ)} {count : ℕ} {bytes : List ℕ} → TakesAsked told count bytes told' → take count (unwrap_or told bytes) ≡ bytes
@@ -77,5 +73,5 @@ known_length {told = None} {name} {size = Some n} f = record {
   fact = ap (option_map length) (file_of-with_file name (replicate n 0) empty) ∙ ap (λ m. Some m) (length-replicate n 0);
 }
 
-pub tells_known : (t : Told) {P : Files → Type 0} (k : Known t.files P) → Tells t (record (supposed t) { files = k.files })
+pub tells_known : (t : Told) {P : Files → Type 0} (k : Known t.files P) → Tells t (record (some_contents t) { files = k.files })
 tells_known t k = record { files = k.tells; input = tells_or t.input []; output = tells_or t.output []; errors = tells_or t.errors [] }

@@ -1,5 +1,5 @@
 -- Bytes that are given and taken piece by piece.
-use Rattle.std.proofs.Common.{◌≡◌, ℕ, ◌+◌, ◌<◌, ◌≤◌, List, [], ◌++◌, length, take, drop, refl, sym, ◌∙◌, ap, subst, append_assoc, arith, length-append}
+use Rattle.std.proofs.Common.{◌≡◌, ℕ, ◌+◌, ◌-◌, ◌<◌, ◌≤◌, List, [], ◌++◌, length, take, drop, refl, sym, ◌∙◌, ap, subst, append_assoc, arith, length-append}
 use Rattle.std.proofs.lemmas.List.{append-nil, take-append-drop, drop-drop, take_all, length-take-le, take_at}
 use Rattle.std.proofs.Math.Seq.{take-add}
 use Rattle.std.proofs.Math.ListN.{drop_of_length-le}
@@ -7,55 +7,64 @@ use Rattle.std.specs.Prelude.{IfSome}
 use Rattle.std.specs.declared.option.Option.{Option}
 use Rattle.std.specs.declared.option.Option.TheVariants.{None, Some}
 use Rattle.bas_edge.specs.Streams.{Gives, Takes}
-use Rattle.abi_calls.specs.Abi.{gained, lost}
-use Rattle.host_monitor.specs.Edges.{GivesPart, TakesAsked, LosesPart}
+use Rattle.abi_calls.specs.Failing.{IsPartWritten, IsPartTaken, with_text, without_front}
+use Rattle.host_monitor.specs.Edges.{TakesAsked}
 
 -- A front of the bytes was given, and this is what stands behind it.
 pub record GivesUpTo (given : Option (List ℕ)) (bytes rest : List ℕ) (given' : Option (List ℕ)) : Type 0 where
   pub put : ℕ
   pub behind : rest ≡ drop put bytes
-  pub grown : given' ≡ gained given (take put bytes)
+  pub grown : given' ≡ with_text given (take put bytes)
 
-pub gained-nothing : (given : Option (List ℕ)) → given ≡ gained given []
-gained-nothing None = refl
-gained-nothing (Some old) = ap Some (sym (append-nil old))
+pub with_text-nothing : (given : Option (List ℕ)) → given ≡ with_text given []
+with_text-nothing None = refl
+with_text-nothing (Some old) = ap Some (sym (append-nil old))
 
-pub gained-gained : (given : Option (List ℕ)) (a b : List ℕ) → gained (gained given a) b ≡ gained given (a ++ b)
-gained-gained None a b = refl
-gained-gained (Some old) a b = ap Some (append_assoc old a b)
+pub with_text-twice : (given : Option (List ℕ)) (a b : List ℕ) → with_text (with_text given a) b ≡ with_text given (a ++ b)
+with_text-twice None a b = refl
+with_text-twice (Some old) a b = ap Some (append_assoc old a b)
 
 pub gives_nothing : (given : Option (List ℕ)) (bytes : List ℕ) → GivesUpTo given bytes bytes given
-gives_nothing given bytes = record { put = 0; behind = refl; grown = gained-nothing given }
+gives_nothing given bytes = record { put = 0; behind = refl; grown = with_text-nothing given }
 
 pub gives_more : {given given' given'' : Option (List ℕ)} {bytes rest : List ℕ} {n : ℕ} → GivesUpTo given bytes rest given' → Gives given' rest n given'' → GivesUpTo given bytes (drop n rest) given''
 gives_more {given} {given'} {given''} {bytes} {rest} {n} f g = record {
   put = f.put + n;
   behind = ap (drop n) f.behind ∙ drop-drop n f.put bytes;
   grown =
-      g.grown ∙ ap (λ x. gained x (take n rest)) f.grown ∙ gained-gained given (take f.put bytes) (take n rest)
-      ∙ ap (λ r. gained given (take f.put bytes ++ take n r)) f.behind ∙ ap (gained given) (sym (take-add f.put n bytes));
+      g.grown ∙ ap (λ x. with_text x (take n rest)) f.grown ∙ with_text-twice given (take f.put bytes) (take n rest)
+      ∙ ap (λ r. with_text given (take f.put bytes ++ take n r)) f.behind ∙ ap (with_text given) (sym (take-add f.put n bytes));
 }
 
-pub gives_part : {given given' : Option (List ℕ)} {bytes rest : List ℕ} → GivesUpTo given bytes rest given' → GivesPart given bytes given'
-gives_part f = record { put = f.put; grown = f.grown }
+pub gives_part : {given given' : Option (List ℕ)} {bytes rest : List ℕ} → GivesUpTo given bytes rest given' → IsPartWritten given given' (with_text given bytes)
+gives_part {given} {given'} {bytes} {rest} f = record {
+  written = take f.put bytes;
+  is = f.grown;
+  missing = drop f.put bytes;
+  then = ap (with_text given) (sym (take-append-drop f.put bytes)) ∙ sym (with_text-twice given (take f.put bytes) (drop f.put bytes)) ∙ ap (λ t. with_text t (drop f.put bytes)) (sym f.grown);
+}
 
-pub gives_all : {given given' : Option (List ℕ)} {bytes rest : List ℕ} → GivesUpTo given bytes rest given' → rest ≡ [] → given' ≡ gained given bytes
+-- A give that failed added nothing.
+pub gives_part_still : {given given' given'' : Option (List ℕ)} {bytes rest : List ℕ} → GivesUpTo given bytes rest given' → given'' ≡ given' → IsPartWritten given given'' (with_text given bytes)
+gives_part_still {given} {given'} {given''} {bytes} {rest} f e = subst (λ g. IsPartWritten given g (with_text given bytes)) (sym e) (gives_part f)
+
+pub gives_all : {given given' : Option (List ℕ)} {bytes rest : List ℕ} → GivesUpTo given bytes rest given' → rest ≡ [] → given' ≡ with_text given bytes
 gives_all {given} {given'} {bytes} {rest} f e =
-    f.grown ∙ ap (gained given) (sym (append-nil (take f.put bytes)) ∙ ap (λ r. take f.put bytes ++ r) (sym e ∙ f.behind) ∙ take-append-drop f.put bytes)
+    f.grown ∙ ap (with_text given) (sym (append-nil (take f.put bytes)) ∙ ap (λ r. take f.put bytes ++ r) (sym e ∙ f.behind) ∙ take-append-drop f.put bytes)
 
-pub lost-nothing : (left : Option (List ℕ)) → left ≡ lost left 0
-lost-nothing None = refl
-lost-nothing (Some old) = refl
+pub without_front-nothing : (left : Option (List ℕ)) → left ≡ without_front left 0
+without_front-nothing None = refl
+without_front-nothing (Some old) = refl
 
-pub lost-lost : (left : Option (List ℕ)) (m n : ℕ) → lost (lost left m) n ≡ lost left (m + n)
-lost-lost None m n = refl
-lost-lost (Some old) m n = ap Some (drop-drop n m old)
+pub without_front-twice : (left : Option (List ℕ)) (m n : ℕ) → without_front (without_front left m) n ≡ without_front left (m + n)
+without_front-twice None m n = refl
+without_front-twice (Some old) m n = ap Some (drop-drop n m old)
 
 -- These bytes, at most so many, were the front of what was left, and what stood behind them is left.
 pub record TakesUpTo (left : Option (List ℕ)) (count : ℕ) (bytes : List ℕ) (left' : Option (List ℕ)) : Type 0 where
   pub within : length bytes ≤ count
   pub front : IfSome left (λ old. old ≡ bytes ++ drop (length bytes) old)
-  pub rest : left' ≡ lost left (length bytes)
+  pub rest : left' ≡ without_front left (length bytes)
 
 pub takes_nothing : (left : Option (List ℕ)) (count : ℕ) → TakesUpTo left count [] left
 takes_nothing None count = record { within = omega arith; front = tt; rest = refl }
@@ -78,7 +87,7 @@ takes_more {left = None} {left'} {left''} {bytes} {buffer} {buffer'} {count} {n}
     record {
       within = omega (arith, length-append bytes (take n buffer'), t.within);
       front = tt;
-      rest = t.rest ∙ ap (λ x. lost x n) f.rest;
+      rest = t.rest ∙ ap (λ x. without_front x n) f.rest;
     }
 takes_more {left = Some old} {left'} {left''} {bytes} {buffer} {buffer'} {count} {n} f t l room =
     let within : n ≤ length buffer' = omega (arith, t.within) in
@@ -89,11 +98,22 @@ takes_more {left = Some old} {left'} {left''} {bytes} {buffer} {buffer'} {count}
     record {
       within = omega (arith, t.within);
       front = two_fronts bytes (take n buffer') n old (drop (length bytes) old) size f.front refl told;
-      rest = t.rest ∙ ap (λ x. lost x n) f.rest ∙ ap (λ m. Some m) (drop-drop n (length bytes) old) ∙ ap (λ j. Some (drop j old)) both;
+      rest = t.rest ∙ ap (λ x. without_front x n) f.rest ∙ ap (λ m. Some m) (drop-drop n (length bytes) old) ∙ ap (λ j. Some (drop j old)) both;
     }
 
-pub takes_part : {left left' : Option (List ℕ)} {bytes : List ℕ} {count : ℕ} → TakesUpTo left count bytes left' → LosesPart left count left'
-takes_part {left} {left'} {bytes} {count} f = record { taken = length bytes; within = f.within; rest = f.rest }
+-- So many bytes were taken of those that were asked.
+part_taken : {left left' : Option (List ℕ)} {count : ℕ} (taken : ℕ) → taken ≤ count → left' ≡ without_front left taken → IsPartTaken left left' (without_front left count)
+part_taken {left} {left'} {count} taken within e = record {
+  taken = taken;
+  is = e;
+  missing = count - taken;
+  then =
+      let sum : count ≡ taken + (count - taken) = omega (arith, within) in
+      ap (without_front left) sum ∙ sym (without_front-twice left taken (count - taken)) ∙ ap (λ l. without_front l (count - taken)) (sym e);
+}
+
+pub takes_part : {left left' : Option (List ℕ)} {bytes : List ℕ} {count : ℕ} → TakesUpTo left count bytes left' → IsPartTaken left left' (without_front left count)
+takes_part {left} {left'} {bytes} {count} f = part_taken (length bytes) f.within f.rest
 
 -- All that was asked.
 pub takes_whole : {left left' : Option (List ℕ)} {bytes : List ℕ} {count : ℕ} → TakesUpTo left count bytes left' → count ≤ length bytes → TakesAsked left count bytes left'
@@ -116,7 +136,7 @@ none_left bytes old count e d within =
 -- All that was left.
 pub takes_rest : {left left' left'' : Option (List ℕ)} {bytes buffer buffer' : List ℕ} {count n : ℕ} → TakesUpTo left count bytes left' → Takes left' buffer n left'' buffer' → n ≡ 0 → 0 < length buffer
     → TakesAsked left count bytes left''
-takes_rest {left = None} {left'} {left''} {bytes} {buffer} {buffer'} {count} {n} f t e room = record { within = f.within; front = tt; rest = t.rest ∙ ap (λ x. lost x n) f.rest }
+takes_rest {left = None} {left'} {left''} {bytes} {buffer} {buffer'} {count} {n} f t e room = record { within = f.within; front = tt; rest = t.rest ∙ ap (λ x. without_front x n) f.rest }
 takes_rest {left = Some old} {left'} {left''} {bytes} {buffer} {buffer'} {count} {n} f t e room =
     let told : IfSome (Some (drop (length bytes) old)) (λ mid. mid ≡ []) =
     let P : Option (List ℕ) → Type 0 = λ x. IfSome x (λ mid. mid ≡ []) in subst P f.rest (t.ended room e) in
@@ -124,18 +144,18 @@ takes_rest {left = Some old} {left'} {left''} {bytes} {buffer} {buffer'} {count}
     record {
       within = f.within;
       front = both.0;
-      rest = t.rest ∙ ap (λ k. lost left' k) e ∙ sym (lost-nothing left') ∙ f.rest ∙ ap (λ m. Some m) both.1;
+      rest = t.rest ∙ ap (λ k. without_front left' k) e ∙ sym (without_front-nothing left') ∙ f.rest ∙ ap (λ m. Some m) both.1;
     }
 
-pub takes_none_part : {left left' left'' : Option (List ℕ)} {bytes buffer buffer' : List ℕ} {count n : ℕ} → TakesUpTo left count bytes left' → Takes left' buffer n left'' buffer' → n ≡ 0 → LosesPart left count left''
+pub takes_none_part : {left left' left'' : Option (List ℕ)} {bytes buffer buffer' : List ℕ} {count n : ℕ} → TakesUpTo left count bytes left' → Takes left' buffer n left'' buffer' → n ≡ 0 → IsPartTaken left left'' (without_front left count)
 takes_none_part {left} {left'} {left''} {bytes} {buffer} {buffer'} {count} {n} f t e =
-    record { taken = length bytes; within = f.within; rest = t.rest ∙ ap (λ k. lost left' k) e ∙ sym (lost-nothing left') ∙ f.rest }
+    part_taken (length bytes) f.within (t.rest ∙ ap (λ k. without_front left' k) e ∙ sym (without_front-nothing left') ∙ f.rest)
 
--- Where a loop over pieces stands: what it did so far, and that no count of faults fell.
+-- Where a loop over pieces stands: what it did so far, and that no fault was counted.
 pub record Stands (done : Type 0) (before now : ℕ) : Type 0 where
   pub work : done
-  pub later : before ≤ now
+  pub unfaulted : now ≡ before
 
-pub ruleset giving = (gives_nothing, gives_more, gives_part, gives_all)
+pub ruleset giving = (gives_nothing, gives_more, gives_part, gives_part_still, gives_all)
 
 pub ruleset taking = (takes_nothing, takes_more, takes_part, takes_whole, takes_rest, takes_none_part)

@@ -3,37 +3,29 @@ use Rattle.std.specs.Prelude.{◌≡◌, ℕ, ◌+◌, ◌-◌, ◌^◌, ◌≤�
 use Rattle.std.specs.declared.option.Option.{Option}
 use Rattle.bas_edge.specs.Files.{Files, file_bytes, file_length}
 use Rattle.abi_calls.specs.World.{Told}
-use Rattle.abi_calls.specs.Abi.{gained, lost}
-
--- A front of the bytes was given.
-pub record GivesPart (given : Option (List ℕ)) (bytes : List ℕ) (given' : Option (List ℕ)) : Type 0 where
-  pub put : ℕ
-  pub grown : given' ≡ gained given (take put bytes)
+use Rattle.abi_calls.specs.Failing.{without_front}
 
 -- As many bytes as were asked were the front of what was left, or all that was left.
-pub record TakesAsked (left : Option (List ℕ)) (count : ℕ) (bytes : List ℕ) (left' : Option (List ℕ)) : Type 0 where
+pub record TakesAsked (left : Option (List ℕ)) (count : ℕ) (bytes : List ℕ)
+    (left' : Option (List ℕ)) : Type 0 where
   pub within : length bytes ≤ count
   pub front : IfSome left (λ old. bytes ≡ take count old)
-  pub rest : left' ≡ lost left count
-
--- At most so many bytes were taken off the front of what was left.
-pub record LosesPart (left : Option (List ℕ)) (count : ℕ) (left' : Option (List ℕ)) : Type 0 where
-  pub taken : ℕ
-  pub within : taken ≤ count
-  pub rest : left' ≡ lost left taken
+  pub rest : left' ≡ without_front left count
 
 -- The length of a file, where the files are told; nothing where no file has the name.
 pub record FindsLength (files : Option Files) (name : List ℕ) (size : Option ℕ) : Type 0 where
   pub found : IfSome files (λ told. size ≡ file_length told name)
 
 -- At most so many bytes, those of the file from the offset on where the files are told.
-pub record ReadsFile (files : Option Files) (name : List ℕ) (offset count : ℕ) (bytes : List ℕ) : Type 0 where
+pub record ReadsFile (files : Option Files) (name : List ℕ) (offset count : ℕ)
+    (bytes : List ℕ) : Type 0 where
   pub within : length bytes ≤ count
   pub read : IfSome files (λ told. bytes ≡ take count (drop offset (file_bytes told name)))
 
 -- The outside as it is told: the files, the input that is left, the output and the errors.
 abbrev pub told_of : Option Files → Option (List ℕ) → Option (List ℕ) → Option (List ℕ) → Told
-told_of files input output errors = record { files = files; input = input; output = output; errors = errors }
+told_of files input output errors =
+    record { files = files; input = input; output = output; errors = errors }
 
 -- The sum of four counts, held at the greatest number of 64 bits.
 abbrev pub sum_of : ℕ → ℕ → ℕ → ℕ → ℕ

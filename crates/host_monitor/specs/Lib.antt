@@ -1,3 +1,3 @@
 pub mod Edges
-pub mod Answers
+pub mod Serving
 pub mod Monitor

@@ -1,8 +1,9 @@
-ghost use Rattle.std.specs.Prelude.{◌≡◌, [], ◌≤◌, length, IfOk, OnErr};
+ghost use Rattle.std.specs.Prelude.{◌≡◌, IfOk, OnOk, OnErr, IsErrOf};
 ghost use Rattle.bas_edge.specs.Errors.{failed};
 ghost use Rattle.bas_edge.specs.Faults.{HasCause};
 ghost use Rattle.bas_edge.specs.Streams.{Takes};
-ghost use Rattle.host_monitor.specs.Edges.{TakesAsked, LosesPart};
+ghost use Rattle.abi_calls.specs.Failing.{IsPartTaken, without_front};
+ghost use Rattle.host_monitor.specs.Edges.{TakesAsked};
 
 use bas_edge::{EdgeError, Failed, Source};
 use bas_items::Items;
@@ -51,9 +52,11 @@ impl<I: Source> Console<I> {
 
     /// Takes bytes to the front of the buffer, which has room, and returns how many; 0 only at the end.
     fn take(&mut self, buffer: &mut [u8]) -> Result<usize, Failed>
-        ensures taken { IfOk result (λ count. Takes (I.left self.old) buffer.old count (I.left self.new) buffer.new) }
+        ensures taken { IfOk result (λ count.
+            Takes (I.left self.old) buffer.old count (I.left self.new) buffer.new) }
         ensures same { OnErr result (I.left self.new ≡ I.left self.old) }
         ensures cause { HasCause failed (I.fault_count self.old) (I.fault_count self.new) result }
+        ensures unfaulted { OnOk result (I.fault_count self.new ≡ I.fault_count self.old) }
     {
         if self.ended {
             return Ok(0);
@@ -66,9 +69,13 @@ impl<I: Source> Console<I> {
     #[tactic(auto, using(crate::proofs::Pieces::taking))]
     /// Takes until there are `count` bytes or the input ends. After an `Err` some of them are taken.
     pub(crate) fn take_all(&mut self, alloc: Global, count: usize) -> Result<Items<u8>, EdgeError>
-        ensures asked { IfOk result (λ bytes. TakesAsked (I.left self.old) count bytes (I.left self.new)) }
-        ensures part { LosesPart (I.left self.old) count (I.left self.new) }
+        ensures asked { IfOk result (λ bytes.
+            TakesAsked (I.left self.old) count bytes (I.left self.new)) }
+        ensures part { IsPartTaken (I.left self.old) (I.left self.new) (without_front (I.left self.old) count) }
         ensures cause { HasCause EdgeError.Failed (I.fault_count self.old) (I.fault_count self.new) result }
+        ensures unfaulted { OnOk result (I.fault_count self.new ≡ I.fault_count self.old) }
+        ensures want { IsErrOf result EdgeError.Memory
+            → I.fault_count self.new ≡ I.fault_count self.old }
     {
         let mut bytes = Items::new(alloc);
         let mut buffer = [0; PIECE];

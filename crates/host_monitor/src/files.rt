@@ -1,4 +1,4 @@
-ghost use Rattle.std.specs.Prelude.{◌≡◌, IfOk, IfSome};
+ghost use Rattle.std.specs.Prelude.{◌≡◌, IfOk, OnOk, IsErrOf};
 ghost use Rattle.bas_edge.specs.Faults.{HasCause};
 ghost use Rattle.host_monitor.specs.Edges.{ReadsFile};
 
@@ -14,9 +14,12 @@ pub(crate) fn read_file<E: Store>(
     offset: u64,
     count: usize,
 ) -> Result<Items<u8>, EdgeError>
-    ensures read { IfOk result (λ bytes. ReadsFile (E.files store.old) name.now offset count bytes) }
+    ensures read { IfOk result (ReadsFile (E.files store.old) name.now offset count) }
     ensures same { E.files store.new ≡ E.files store.old }
     ensures cause { HasCause EdgeError.Failed (E.fault_count store.old) (E.fault_count store.new) result }
+    ensures unfaulted { OnOk result (E.fault_count store.new ≡ E.fault_count store.old) }
+    ensures want { IsErrOf result EdgeError.Memory
+        → E.fault_count store.new ≡ E.fault_count store.old }
 {
     let length = store.length(name)?.unwrap_or(0);
     let room = length.saturating_sub(offset).min(count as u64) as usize;

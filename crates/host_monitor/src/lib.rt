@@ -4,13 +4,12 @@
 mod console;
 mod edges;
 mod files;
+mod laws;
 mod monitor;
 mod output;
 mod outside;
 mod serve;
 mod streams;
 
+pub use laws::told_and_faults;
 pub use monitor::Monitor;
-
-#[cfg(test)]
-mod tests;

@@ -1,6 +1,4 @@
 ghost use Rattle.std.specs.Prelude.{◌≡◌, None, IfOk};
-ghost use Rattle.abi_calls.specs.Sound.{IsSound};
-ghost use Rattle.abi_calls.proofs.SoundProp.{IsSound-prop};
 ghost use Rattle.host_objects.specs.Objects.{objects_of};
 ghost use Rattle.host_monitor.specs.Edges.{told_of, sum_of};
 
@@ -23,7 +21,6 @@ pub struct Monitor<I: Source, O, P, E> {
     objects: Objects<Counting>,
     outside: Outside<I, O, P, E>,
     answered: u64,
-    ghost sound: { IsSound (objects_of objects) } by { IsSound-prop (objects_of objects) },
 }
 
 impl<I: Source + Drop, O: Sink + Drop, P: Sink + Drop, E: Store + Drop> Monitor<I, O, P, E> {
@@ -39,8 +36,15 @@ impl<I: Source + Drop, O: Sink + Drop, P: Sink + Drop, E: Store + Drop> Monitor<
         errors: P,
         store: E,
     ) -> Result<Monitor<I, O, P, E>, Memory>
-        ensures objects { IfOk result (λ monitor. ⟦<Monitor<I, O, P, E> as Host>⟧.objects monitor ≡ untouched) }
-        ensures unasked { IfOk result (λ monitor. ⟦<Monitor<I, O, P, E> as Host>⟧.answered_count monitor ≡ 0) }
+        ensures objects { IfOk result (λ monitor.
+            ⟦<Monitor<I, O, P, E> as Host>⟧.objects monitor ≡ untouched) }
+        ensures unasked { IfOk result (λ monitor.
+            ⟦<Monitor<I, O, P, E> as Host>⟧.answered_count monitor ≡ 0) }
+        ensures told { IfOk result (λ monitor. ⟦<Monitor<I, O, P, E> as Host>⟧.told monitor
+            ≡ told_of (E.files store) (I.left input) (O.given output) (P.given errors)) }
+        ensures faults { IfOk result (λ monitor. ⟦<Monitor<I, O, P, E> as Host>⟧.fault_count monitor
+            ≡ sum_of (I.fault_count input) (O.fault_count output)
+            (P.fault_count errors) (E.fault_count store)) }
         ensures input { IfOk result (λ monitor. input_of monitor ≡ input) }
         ensures output { IfOk result (λ monitor. output_of monitor ≡ output) }
         ensures errors { IfOk result (λ monitor. errors_of monitor ≡ errors) }
@@ -92,15 +96,18 @@ impl<I: Source + Drop, O: Sink + Drop, P: Sink + Drop, E: Store + Drop> Host
     for Monitor<I, O, P, E> {
     ghost objects = { λ m. objects_of m.objects };
 
-    ghost told = { λ m. told_of (E.files m.outside.store) (I.left m.outside.input) (O.given m.outside.output) (P.given m.outside.errors) };
+    ghost told = { λ m. told_of (E.files m.outside.store) (I.left m.outside.input)
+        (O.given m.outside.output) (P.given m.outside.errors) };
 
     ghost journal = { λ _. None };
 
     ghost answered_count = { λ m. m.answered };
 
-    ghost fault_count = { λ m. sum_of (I.fault_count m.outside.input) (O.fault_count m.outside.output) (P.fault_count m.outside.errors) (E.fault_count m.outside.store) };
+    ghost fault_count = { λ m. sum_of (I.fault_count m.outside.input)
+        (O.fault_count m.outside.output) (P.fault_count m.outside.errors)
+        (E.fault_count m.outside.store) };
 
-    ghost sound = { λ m. m.sound };
+    ghost sound = { λ m. m.objects.sound };
 
     fn turn(&mut self) -> Turned {
         self.objects.turn()
@@ -121,11 +128,6 @@ impl<I: Source + Drop, O: Sink + Drop, P: Sink + Drop, E: Store + Drop> Host
     }
 
     fn fresh(&self) -> bool {
-        let positions = self.objects.positions();
-        self.objects.is_empty()
-            && positions.turns == 0
-            && positions.pick == 0
-            && positions.random == 0
-            && self.answered == 0
+        self.objects.is_fresh() & (self.answered == 0)
     }
 }

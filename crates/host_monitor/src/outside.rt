@@ -18,9 +18,12 @@ pub(crate) struct Outside<I: Source, O, P, E> {
 }
 
 impl<I: Source, O: Sink, P: Sink, E: Store> Edges for Outside<I, O, P, E> {
-    ghost told = { λ s. told_of (E.files s.store) (I.left s.input) (O.given s.output) (P.given s.errors) };
+    ghost told = { λ s.
+        told_of (E.files s.store) (I.left s.input) (O.given s.output) (P.given s.errors) };
 
-    ghost fault_count = { λ s. sum_of (I.fault_count s.input) (O.fault_count s.output) (P.fault_count s.errors) (E.fault_count s.store) };
+    ghost fault_count = { λ s.
+        sum_of (I.fault_count s.input) (O.fault_count s.output)
+        (P.fault_count s.errors) (E.fault_count s.store) };
 
     fn put_output(&mut self, bytes: &[u8]) -> Result<(), EdgeError> {
         give_all(&mut self.output, bytes)
