@@ -1,6 +1,9 @@
 -- The run of /bin/hi, worked out.
-use Rattle.std.proofs.Common.{◌≡◌, ◌≢◌, ℕ, suc, ◌+◌, ◌*◌, ◌%◌, ◌^◌, ◌<◌, true, if◌then◌else◌, List, [], ◌∷◌, ◌++◌, length, get_or, slice_index, slice_get, refl, ◌∙◌, ap, arith}
+use Rattle.std.proofs.Common.{nat_lt, ◌≡◌, ◌≢◌, ℕ, suc, ◌+◌, ◌*◌, ◌%◌, ◌^◌, ◌<◌, true, if◌then◌else◌, List, [], ◌∷◌, ◌++◌, length, get_or, slice_index, slice_get, refl, ◌∙◌, ap, arith}
 use Rattle.std.specs.Option.{option_or}
+use Rattle.std.specs.List.{All, list_all}
+use Rattle.std.proofs.lemmas.Bool.{and_parts, ltb-true}
+use Rattle.std.proofs.lemmas.List.Elements.{All-nil, All-cons}
 use Rattle.std.specs.Ordering.{nat_cmp}
 use Rattle.std.specs.FinMap.{empty, get, insert}
 use Rattle.std.specs.declared.option.Option.{Option}
@@ -21,7 +24,7 @@ use Rattle.abi_calls.proofs.NumberMaps.{get_same, get_other}
 use Rattle.mono_model.specs.Machine.{Mono, Process, Thread, Description, process_at, thread_at, with_process, with_thread, exit_code, code_in, exited}
 use Rattle.mono_model.specs.Calls.{Caller, served, finished, ended, description_of, described_in, described_by, writable, write_to, write_unless, memory_in}
 use Rattle.mono_model.specs.Program.{headers, is_plain, plain_program}
-use Rattle.mono_model.specs.Starting.{Runs, blank, begun, begun_from, started_if, boot, console_descriptors, console_descriptions}
+use Rattle.mono_model.specs.Starting.{argument_block, Runs, blank, begun, begun_from, started_if, boot, console_descriptors, console_descriptions}
 use Rattle.mono_model.specs.Turns.{Ending, Exited, pick_of, picked, with_memory_in, with_run, after_run, run_thread, turn_at, turn_of, run_of}
 use Rattle.mono_model.proofs.RunLaws.{run_exited, run_turn}
 use Rattle.bascule_top.specs.Commands.{TURNS, start_settings, start_job}
@@ -274,7 +277,23 @@ hello_holds = record {
   there = λ k h. program_there hello_file (hello_name ∷ []) (omega (arith, hello_length)) (omega (arith, hello_length)) (omega arith) k (omega (arith, hello_length));
 }
 
-hello_booted : (x : Contents) → file_of x.files hello_name ≡ Some hello_file → boot start_settings x (start_job hello_name) ≡ Runs (begins x hello_space (begins_in_space hello_file (hello_name ∷ []) (omega (arith, hello_length)) (omega (arith, hello_length))) hello_holds)
+all_small : (xs : List ℕ) → list_all (λ byte. nat_lt byte 256) xs ≡ true → All (λ byte. byte < 256) xs
+all_small [] all = All-nil (λ byte. byte < 256)
+all_small (x ∷ xs) all =
+    let parts = and_parts (nat_lt x 256) (list_all (λ byte. nat_lt byte 256) xs) all in
+    All-cons (λ byte. byte < 256) x xs (ltb-true x 256 parts.0) (all_small xs parts.1)
+
+hello_small : All (λ byte. byte < 256) hello_file
+unfolding hello_file
+hello_small = all_small hello_file refl
+
+block_small : All (λ byte. byte < 256) (argument_block (hello_name ∷ []))
+block_small = all_small (argument_block (hello_name ∷ [])) refl
+
+hello_in_space : IsSpace hello_space
+hello_in_space = begins_in_space hello_file (hello_name ∷ []) (omega (arith, hello_length)) (omega (arith, hello_length)) hello_small block_small
+
+hello_booted : (x : Contents) → file_of x.files hello_name ≡ Some hello_file → boot start_settings x (start_job hello_name) ≡ Runs (begins x hello_space hello_in_space hello_holds)
 hello_booted x there =
     let m : Mono = blank start_settings (record { turns = 0; pick = 0; random = 0 }) x in
     ap (λ (file : Option (List ℕ)). started_if m (hello_name ∷ []) file) there
@@ -283,4 +302,4 @@ hello_booted x there =
 -- the program's run
 pub says_hello : (x : Contents) → file_of x.files hello_name ≡ Some hello_file → SaysHello x
 says_hello x there =
-    run_says_hello x hello_space (begins_in_space hello_file (hello_name ∷ []) (omega (arith, hello_length)) (omega (arith, hello_length))) hello_holds (hello_booted x there)
+    run_says_hello x hello_space hello_in_space hello_holds (hello_booted x there)

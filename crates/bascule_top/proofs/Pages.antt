@@ -2,19 +2,21 @@
 use Rattle.std.proofs.Common.{◌≡◌, ℕ, ◌+◌, ◌-◌, ◌*◌, ◌/◌, ◌<◌, ◌≤◌, List, [], ◌∷◌, ◌++◌, length, drop, replicate, get_or, cond, slice_index, refl, ◌∙◌, ap, arith}
 use Rattle.std.proofs.lemmas.List.{length-replicate, get_or_append_left, get_or-append_right, get_or-drop}
 use Rattle.std.proofs.Common.{length-drop}
+use Rattle.std.proofs.lemmas.List.Elements.{All-append, All-replicate, All-drop}
+use Rattle.std.specs.List.{All}
 use Rattle.std.specs.Option.{option_map}
 use Rattle.std.specs.Ordering.{nat_cmp}
 use Rattle.std.specs.FinMap.{empty, get}
 use Rattle.std.specs.declared.option.Option.{Option}
 use Rattle.std.specs.declared.option.Option.TheVariants.{Some}
 use Rattle.rv_core.specs.Memory.{Memory, Cell, cell_with}
-use Rattle.guest_space.specs.Space.{Space, Frame, IsSpace, blank, in_run, cell_in, memory_of, with_run, with_memory, protected, bytes_from, byte_or_zero}
+use Rattle.guest_space.specs.Space.{Space, Frame, IsSpace, blank, in_run, cell_in, memory_of, with_run, with_memory, protected, bytes_from, byte_or_zero, frame_in_run, frame_of_memory}
 use Rattle.guest_space.specs.Access.{with_bytes}
 use Rattle.guest_space.specs.Run.{is_run}
-use Rattle.guest_space.proofs.Gets.{get-with_run, get-protected, get-with_memory, frame_in_run, frame_of_memory}
+use Rattle.guest_space.proofs.Gets.{get-with_run, get-protected, get-with_memory}
 use Rattle.guest_space.proofs.Cells.{SameRights-with_bytes, memory_of-place, get_or-bytes_from, memory_of-with_memory}
 use Rattle.guest_space.proofs.Bytes.{with_bytes_before, with_bytes_within}
-use Rattle.guest_space.proofs.Spaces.{IsSpace-empty, IsSpace-with_run, IsSpace-protected, IsSpace-with_memory}
+use Rattle.guest_space.proofs.Spaces.{HasBytes-memory_of, HasBytes-with_bytes, IsSpace-empty, IsSpace-with_run, IsSpace-protected, IsSpace-with_memory}
 use Rattle.elf_loader.specs.declared.Run.{Run}
 use Rattle.mono_model.specs.Program.{page_bytes, page_count, plain_run}
 use Rattle.mono_model.specs.Starting.{STACK_PAGE, STACK_PAGES, stack_pointer, argument_block, pages_in, loaded, stacked, with_stack}
@@ -101,9 +103,14 @@ module _ (file : List ℕ) (args : List (List ℕ)) (long : 124 ≤ length file)
       ∙ with_bytes_before (memory_of (with_stack program)) (stack_pointer args) (argument_block args) (65536 + (120 + k)) (omega arith)
       ∙ cell_there k h
 
-  -- each page is one that a process may have
-  pub begins_in_space : IsSpace begins_with
-  begins_in_space =
+  -- each page is one that a process may have, where the file's bytes and those of the argument block are bytes
+  pub begins_in_space : All (λ byte. byte < 256) file → All (λ byte. byte < 256) (argument_block args) → IsSpace begins_with
+  begins_in_space small block =
+      let is_byte : ℕ → Type 0 = λ byte. byte < 256 in
+      let pad = replicate (page_count file * 4096 - length file) 0 in
+      let zeros : (n : ℕ) → All (λ byte. byte < 256) (replicate n 0) = λ n. All-replicate (λ byte. byte < 256) n 0 (omega arith) in
+      let pages : All (λ byte. byte < 256) (page_bytes file) = All-append is_byte (replicate 120 0) (drop 120 file ++ pad) (zeros 120) (All-append is_byte (drop 120 file) pad (All-drop is_byte 120 file small) (zeros (page_count file * 4096 - length file))) in
       let first : IsSpace made = IsSpace-with_run empty 16 (pages_in run) 3 (ap (is_run 16) one_page) (omega arith) IsSpace-empty in
-      let whole : IsSpace program = IsSpace-protected filled 16 (pages_in run) 7 (omega arith) (IsSpace-with_memory made written first) in
-      IsSpace-with_memory (with_stack program) _ (IsSpace-with_run program STACK_PAGE STACK_PAGES 3 refl (omega arith) whole)
+      let whole : IsSpace program = IsSpace-protected filled 16 (pages_in run) 7 (omega arith) (IsSpace-with_memory made written (HasBytes-with_bytes (memory_of made) 65536 (page_bytes file) pages (HasBytes-memory_of made first)) first) in
+      let stack : IsSpace (with_stack program) = IsSpace-with_run program STACK_PAGE STACK_PAGES 3 refl (omega arith) whole in
+      IsSpace-with_memory (with_stack program) _ (HasBytes-with_bytes (memory_of (with_stack program)) (stack_pointer args) (argument_block args) block (HasBytes-memory_of (with_stack program) stack)) stack

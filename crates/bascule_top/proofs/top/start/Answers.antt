@@ -74,9 +74,8 @@ returns-in_err-no_program-in-NoProgram-clause-stops g c =
     let o' = g.H.Host.objects c.boot-2.new.host in
     let t = g.H.Host.told c.args.host.now in
     let t' = g.H.Host.told c.boot-2.new.host in
-    let fits = start_fits c.args.name.now os o (g.H.Host.answered_count c.args.host.now) c.requires.named c.requires.fresh (g.met.H.Host.sound c.args.host.now) (search rules) in
     on_err _ _ (halts_start c.args.name.now os o t t' (g.H.Host.answered_count c.args.host.now) c.requires.named c.requires.fresh (g.met.H.Host.sound c.args.host.now) (search rules)
-    (halts_after os os' o o' t t' t' fits c.in_ok-boot.ensures.serves c.in_ok-boot.ensures.quiet (halts_same os' o' t')))
+    (halts_after os os' o o' t t' t' c.in_ok-boot.ensures.serves (halts_same os' o' t')))
 
 pub returns-in_err-code-in-Up-clause-stops : goal.returns-in_err-code-in-Up-clause-stops
 returns-in_err-code-in-Up-clause-stops g c =
