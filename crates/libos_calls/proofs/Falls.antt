@@ -14,38 +14,38 @@ use Rattle.libos_state.specs.declared.cont.Stage.{Stage}
 use Rattle.libos_state.specs.declared.cont.Stage.TheVariants.{SetContext, CloseHandles, ReadMemory, WriteStream, Configure, OpenConsole, OpenProgram, ProgramLength, ReadProgram, CloseProgram, CreateProcess, AllocateRun, WriteRun, ProtectRun, AllocateStack, WriteBlock, CreateThread, CreateEvent, StartThread}
 use Rattle.libos_state.specs.declared.state.LibOs.{LibOs}
 use Rattle.libos_state.specs.Pending.{number, run_in, run_piece}
-use Rattle.libos_state.specs.Answered.{goes_on, starting, closes_on, loads, next, answered, answered_in}
+use Rattle.libos_state.specs.Answered.{starting, with_step, service_closing, load_step, answered_at, answered, answered_in}
 use Rattle.libos_state.specs.Kept.{KeptAt, IsKept}
 use Rattle.libos_calls.proofs.Pieces.{length-run_piece}
 use Rattle.libos_calls.specs.Left.{left_at, left_of, calls_left, IsLengthSmall}
 
-closes_falls : (os : LibOs) (c : Cont) (handles : List ℕ) → calls_left (closes_on os c (drop 1 handles)) < 2 * 2 ^ 66 + length handles
-closes_falls os c [] = omega arith
-closes_falls os c (h ∷ []) = omega arith
-closes_falls os c (h ∷ k ∷ handles) = omega arith
+closes_falls : (c : Cont) (handles : List ℕ) → left_of (Some (service_closing c (drop 1 handles))) < 2 * 2 ^ 66 + length handles
+closes_falls c [] = omega arith
+closes_falls c (h ∷ []) = omega arith
+closes_falls c (h ∷ k ∷ handles) = omega arith
 
-opened_falls : (os : LibOs) (c : Cont) (handles : List ℕ) (h : ℕ) (all : Bool) → length handles < 3 →
-    calls_left (goes_on os (starting c (if all then OpenProgram else OpenConsole) [] (handles ++ h ∷ []) [])) < 14 * 2 ^ 66 + (3 - length handles)
-opened_falls os c handles h true few = omega arith
-opened_falls os c handles h false few = omega (arith, length_push handles h)
+opened_falls : (c : Cont) (handles : List ℕ) (h : ℕ) (all : Bool) → length handles < 3 →
+    left_of (Some (starting c (if all then OpenProgram else OpenConsole) [] (handles ++ h ∷ []) [])) < 14 * 2 ^ 66 + (3 - length handles)
+opened_falls c handles h true few = omega arith
+opened_falls c handles h false few = omega (arith, length_push handles h)
 
-length_falls : (os : LibOs) (c : Cont) (size : ℕ) (none : Bool) → size < 2 ^ 64 →
-    calls_left (if none then goes_on os (starting c CloseProgram [] c.handles []) else goes_on os (starting c ReadProgram [] c.handles (size ∷ []))) < 12 * 2 ^ 66
-length_falls os c size true small = omega arith
-length_falls os c size false small = omega arith
+length_falls : (c : Cont) (size : ℕ) (none : Bool) → size < 2 ^ 64 →
+    left_of (Some (if none then starting c CloseProgram [] c.handles [] else starting c ReadProgram [] c.handles (size ∷ []))) < 12 * 2 ^ 66
+length_falls c size true small = omega arith
+length_falls c size false small = omega arith
 
-read_falls : (os : LibOs) (c : Cont) (bytes : List ℕ) (none all : Bool) → (length bytes == 0) ≡ none → nat_le (number c 0) (length (c.bytes ++ bytes)) ≡ all →
-    calls_left (if none then goes_on os (starting c CloseProgram c.bytes c.handles [])
-    else (if all then goes_on os (starting c CloseProgram (c.bytes ++ bytes) c.handles [])
-    else goes_on os (starting c ReadProgram (c.bytes ++ bytes) c.handles c.numbers))) < 11 * 2 ^ 66 + (number c 0 - length c.bytes)
-read_falls os c bytes true all n a = omega arith
-read_falls os c bytes false true n a = omega arith
-read_falls os c bytes false false n a =
+read_falls : (c : Cont) (bytes : List ℕ) (none all : Bool) → (length bytes == 0) ≡ none → nat_le (number c 0) (length (c.bytes ++ bytes)) ≡ all →
+    left_of (Some (if none then starting c CloseProgram c.bytes c.handles []
+    else (if all then starting c CloseProgram (c.bytes ++ bytes) c.handles []
+    else starting c ReadProgram (c.bytes ++ bytes) c.handles c.numbers))) < 11 * 2 ^ 66 + (number c 0 - length c.bytes)
+read_falls c bytes true all n a = omega arith
+read_falls c bytes false true n a = omega arith
+read_falls c bytes false false n a =
     let some = eqb-false (length bytes) 0 n in
     let more = leb-false (number c 0) (length (c.bytes ++ bytes)) a in
     omega (arith, length-append c.bytes bytes)
 
-loads_falls : (os : LibOs) (c : Cont) (plain : Bool) → calls_left (loads os c plain) < 10 * 2 ^ 66
+loads_falls : (os : LibOs) (c : Cont) (plain : Bool) → calls_left (with_step os (load_step c plain)) < 10 * 2 ^ 66
 loads_falls os c true = omega arith
 loads_falls os c false = omega arith
 
@@ -55,10 +55,10 @@ run_small file size short pages = omega arith
 piece_nearer : (size from cut : ℕ) → cut ≡ min 65536 (size - from) → from + cut < size → 7 * 2 ^ 66 + (size - (from + cut)) < 7 * 2 ^ 66 + (size - from)
 piece_nearer size from cut piece more = omega arith
 
-writes_falls : (os : LibOs) (c : Cont) (more : Bool) → nat_lt (number c 1 + length (run_piece c)) (length (run_in c).bytes) ≡ more →
+writes_falls : (c : Cont) (more : Bool) → nat_lt (number c 1 + length (run_piece c)) (length (run_in c).bytes) ≡ more →
     left_of (Some (if more then starting c WriteRun c.bytes c.handles (0 ∷ (number c 1 + length (run_piece c)) ∷ []) else starting c ProtectRun c.bytes c.handles (0 ∷ []))) < left_at c WriteRun
-writes_falls os c true m = piece_nearer (length (run_in c).bytes) (number c 1) (length (run_piece c)) (length-run_piece c) (ltb-true _ _ m)
-writes_falls os c false m = omega arith
+writes_falls c true m = piece_nearer (length (run_in c).bytes) (number c 1) (length (run_piece c)) (length-run_piece c) (ltb-true _ _ m)
+writes_falls c false m = omega arith
 
 -- Each stage is some way from the end.
 left_some : (c : Cont) (stage : Stage) → 0 < left_at c stage
@@ -68,22 +68,22 @@ left_some c ReadProgram = omega arith
 left_some c WriteRun = omega arith
 left_some c _ = lit< tt
 
-falls_at : (os : LibOs) (c : Cont) (stage : Stage) (r : Reply) → KeptAt c stage → (stage ≡ ProgramLength → IsLengthSmall r) → calls_left (next os c stage r) < left_at c stage
+falls_at : (os : LibOs) (c : Cont) (stage : Stage) (r : Reply) → KeptAt c stage → (stage ≡ ProgramLength → IsLengthSmall r) → calls_left (answered_at os c stage r) < left_at c stage
 falls_at os c SetContext Done kept small = lit< tt
-falls_at os c CloseHandles Done kept small = closes_falls os c c.handles
+falls_at os c CloseHandles Done kept small = closes_falls c c.handles
 falls_at os c ReadMemory (Bytes bytes) kept small = lit< tt
 falls_at os c ReadMemory BadAddress kept small = lit< tt
 falls_at os c ReadMemory NoAccess kept small = lit< tt
 falls_at os c WriteStream (Count n) kept small = lit< tt
 falls_at os c Configure Done kept small = lit< tt
-falls_at os c OpenConsole (Handle h) kept small = opened_falls os c c.handles h (length (c.handles ++ h ∷ []) == 3) kept
+falls_at os c OpenConsole (Handle h) kept small = opened_falls c c.handles h (length (c.handles ++ h ∷ []) == 3) kept
 falls_at os c OpenProgram (Handle h) kept small = lit< tt
-falls_at os c ProgramLength (Length size) kept small = length_falls os c size (size == 0) (small refl)
-falls_at os c ReadProgram (Bytes bytes) kept small = read_falls os c bytes (length bytes == 0) (nat_le (number c 0) (length (c.bytes ++ bytes))) refl refl
+falls_at os c ProgramLength (Length size) kept small = length_falls c size (size == 0) (small refl)
+falls_at os c ReadProgram (Bytes bytes) kept small = read_falls c bytes (length bytes == 0) (nat_le (number c 0) (length (c.bytes ++ bytes))) refl refl
 falls_at os c CloseProgram Done kept small = loads_falls os c (is_plain c.bytes)
 falls_at os c CreateProcess (Handle h) kept small = lit< tt
 falls_at os c AllocateRun Done kept small = run_small (length c.bytes) (length (page_bytes c.bytes)) kept.short (length-page_bytes c.bytes kept.headed)
-falls_at os c WriteRun Done kept small = writes_falls os c (nat_lt (number c 1 + length (run_piece c)) (length (run_in c).bytes)) refl
+falls_at os c WriteRun Done kept small = writes_falls c (nat_lt (number c 1 + length (run_piece c)) (length (run_in c).bytes)) refl
 falls_at os c ProtectRun Done kept small = lit< tt
 falls_at os c AllocateStack Done kept small = lit< tt
 falls_at os c WriteBlock Done kept small = lit< tt

@@ -2,3 +2,4 @@ pub mod Blocks
 pub mod Pieces
 pub mod Keeps
 pub mod Falls
+pub mod Steps

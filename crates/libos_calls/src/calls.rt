@@ -9,7 +9,6 @@ use crate::kept::{A0, description_of, number_at, upcall_of};
 use crate::start_calls::asked_start;
 use abi_calls::Call;
 use bas_edge::Memory;
-use bas_items::Items;
 use libos_state::{Cont, LibOs, Stage};
 use std::alloc::Global;
 
@@ -26,7 +25,7 @@ fn stream_handle(os: &LibOs, process: u64, fd: u64) -> u64
 }
 
 /// The call of a stage that serves a trap.
-fn asked_service(os: &LibOs, alloc: Global, cont: &Cont) -> Result<Call, Memory>
+fn asked_service(os: &LibOs, cont: &Cont) -> Result<Call, Memory>
     requires { is_service cont.now.stage ≡ true }
     ensures { IfOk result (λ call. call ≡ spec.asked os.now cont.now cont.now.stage) }
 {
@@ -55,7 +54,7 @@ fn asked_service(os: &LibOs, alloc: Global, cont: &Cont) -> Result<Call, Memory>
         Stage::WriteStream => Ok(Call::StreamWrite {
             stream: stream_handle(os, upcall.process, registers[A0]),
             offset: number_at(cont.numbers.as_slice(), 0),
-            bytes: Items::from_slice(alloc, cont.bytes.as_slice())?,
+            bytes: cont.bytes.clone()?,
         }),
         _ => unreachable!(),
     }
@@ -72,7 +71,7 @@ fn asked(os: &LibOs, alloc: Global, cont: &Cont) -> Result<Call, Memory>
         | Stage::CloseHandles
         | Stage::ExitProcess
         | Stage::ReadMemory
-        | Stage::WriteStream => asked_service(os, alloc, cont),
+        | Stage::WriteStream => asked_service(os, cont),
         _ => asked_start(os, alloc, cont),
     }
 }

@@ -11,11 +11,11 @@ ghost use Rattle.libos_calls.specs.Families.{is_service};
 ghost use Rattle.libos_calls.specs.Left.{calls_left, IsLengthSmall};
 
 use crate::kept::{A0, upcall_of};
-use crate::start_replies::answered_start;
+use crate::start_replies::{change_of, start_step};
 use abi_calls::Reply;
 use bas_edge::Memory;
 use bas_items::Items;
-use libos_state::{Cont, Event, LibOs, Stage};
+use libos_state::{Change, Cont, Event, LibOs, Stage, Step};
 use rv_core::Context;
 use std::alloc::{AllocError, Global};
 
@@ -70,7 +70,7 @@ pub fn finishing(alloc: Global, event: Event, result_in_a0: u64) -> Cont
 
 /// The service of a process that ends, with the handles that are still to be closed.
 pub fn closing(alloc: Global, event: Event, handles: Items<u64>, numbers: Items<u64>) -> Cont
-    ensures { (os : LibOs) (c : Cont) → c.event ≡ event → c.numbers ≡ numbers → spec.closes_on os c handles ≡ spec.goes_on os result }
+    ensures { (c : Cont) → c.event ≡ event → c.numbers ≡ numbers → result ≡ spec.service_closing c handles }
 {
     if handles.is_empty() {
         let mut cont = bare(alloc, event, Stage::ExitProcess);
@@ -93,10 +93,10 @@ fn rest_of(alloc: Global, handles: &[u64]) -> Result<Items<u64>, AllocError>
     }
 }
 
-/// What a service on a trap keeps after a reply; `None` where it ends.
-fn service_after(alloc: Global, cont: Cont, reply: &Reply) -> Result<Option<Cont>, Memory>
+/// What a service on a trap does on a reply.
+fn service_step(alloc: Global, cont: Cont, reply: &Reply) -> Result<Step, Memory>
     requires { is_service cont.stage ≡ true }
-    ensures { IfOk result (λ next. (os : LibOs) → spec.next os cont cont.stage reply.now ≡ record os { cont = next }) }
+    ensures { IfOk result (λ step. step ≡ spec.next cont cont.stage reply.now) }
 {
     let Cont {
         event,
@@ -108,10 +108,10 @@ fn service_after(alloc: Global, cont: Cont, reply: &Reply) -> Result<Option<Cont
         numbers,
     } = cont;
     match (stage, reply) {
-        (Stage::SetContext, Reply::Done) => Ok(Some(bare(alloc, event, Stage::Resume))),
+        (Stage::SetContext, Reply::Done) => Ok(Step::Asks(bare(alloc, event, Stage::Resume))),
         (Stage::CloseHandles, Reply::Done) => {
             let rest = rest_of(alloc, handles.as_slice())?;
-            Ok(Some(closing(alloc, event, rest, numbers)))
+            Ok(Step::Asks(closing(alloc, event, rest, numbers)))
         }
         (Stage::ReadMemory, Reply::Bytes(bytes)) => {
             let bytes = bytes.clone()?;
@@ -119,17 +119,72 @@ fn service_after(alloc: Global, cont: Cont, reply: &Reply) -> Result<Option<Cont
             let mut cont = bare(alloc, event, Stage::WriteStream);
             cont.bytes = bytes;
             cont.numbers = numbers;
-            Ok(Some(cont))
+            Ok(Step::Asks(cont))
         }
         (Stage::ReadMemory, Reply::BadAddress | Reply::NoAccess) => {
-            Ok(Some(finishing(alloc, event, error(EFAULT))))
+            Ok(Step::Asks(finishing(alloc, event, error(EFAULT))))
         }
-        (Stage::WriteStream, Reply::Count(count)) => Ok(Some(finishing(alloc, event, *count))),
-        _ => Ok(None),
+        (Stage::WriteStream, Reply::Count(count)) => {
+            Ok(Step::Asks(finishing(alloc, event, *count)))
+        }
+        _ => Ok(Step::Ends),
+    }
+}
+
+/// What a service does on a reply.
+fn step_of(alloc: Global, cont: Cont, reply: &Reply) -> Result<Step, Memory>
+    requires { KeptAt cont cont.stage }
+    ensures value { IfOk result (λ step. step ≡ spec.next cont cont.stage reply.now) }
+    ensures small { OnOk result (cont.stage ≡ Stage.ProgramLength → IsLengthSmall reply.now) }
+{
+    match cont.stage {
+        Stage::SetContext
+        | Stage::Resume
+        | Stage::CloseHandles
+        | Stage::ExitProcess
+        | Stage::ReadMemory
+        | Stage::WriteStream => service_step(alloc, cont, reply),
+        _ => start_step(alloc, cont, reply),
+    }
+}
+
+/// Changes the records.
+fn change_records(os: &mut LibOs, alloc: Global, change: Change) -> Result<(), AllocError>
+    ensures { OnOk result (os.new ≡ spec.with_change os.old change) }
+{
+    let Change::Begins {
+        process,
+        thread,
+        descriptions,
+    } = change
+    else {
+        return Ok(());
+    };
+    let mut processes = Items::new(alloc);
+    processes.push(process)?;
+    os.threads = Items::from_slice(alloc, &[thread])?;
+    os.processes = processes;
+    os.descriptions = descriptions;
+    os.next_id = 2;
+    Ok(())
+}
+
+/// The service goes on, or ends.
+fn take_step(os: &mut LibOs, step: Step)
+    ensures { os.new ≡ spec.with_step os.old step }
+{
+    match step {
+        Step::Asks(cont) => os.cont = Some(cont),
+        Step::Ends => os.cont = None,
+        Step::Stops(boot) => {
+            os.boot = boot;
+            os.cont = None;
+        }
     }
 }
 
 /// Takes the reply to the pending call, a stage at a time.
+#[tactic(auto, using(crate::proofs::Steps::step_rules))]
 fn take_reply(os: &mut LibOs, alloc: Global, reply: &Reply) -> Result<(), Memory>
     requires { IsKept os.old }
     ensures value { OnOk result (os.new ≡ spec.answered os.old reply.now) }
@@ -138,18 +193,11 @@ fn take_reply(os: &mut LibOs, alloc: Global, reply: &Reply) -> Result<(), Memory
     let Some(cont) = os.cont.take() else {
         return Ok(());
     };
-    match cont.stage {
-        Stage::SetContext
-        | Stage::Resume
-        | Stage::CloseHandles
-        | Stage::ExitProcess
-        | Stage::ReadMemory
-        | Stage::WriteStream => {
-            os.cont = service_after(alloc, cont, reply)?;
-            Ok(())
-        }
-        _ => answered_start(os, alloc, cont, reply),
-    }
+    let change = change_of(alloc, &cont, reply)?;
+    let step = step_of(alloc, cont, reply)?;
+    change_records(os, alloc, change)?;
+    take_step(os, step);
+    Ok(())
 }
 
 /// Takes the reply to the pending call: the library OS stands for the same machine, and is nearer to the end of the

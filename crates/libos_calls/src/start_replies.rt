@@ -1,4 +1,4 @@
-ghost use Rattle.std.specs.Prelude.{◌≡◌, ◌+◌, IfOk, OnOk, None, true, false, [], ◌∷◌, ◌++◌, length};
+ghost use Rattle.std.specs.Prelude.{◌≡◌, ◌+◌, IfOk, OnOk, true, false, [], ◌∷◌, ◌++◌, length};
 ghost use Rattle.mono_model.specs.Program.{is_plain};
 ghost use Rattle.libos_state.specs.Pending.{number, run_in, run_piece};
 ghost use Rattle.libos_state.specs.declared.cont.Cont.{Cont};
@@ -6,7 +6,6 @@ ghost use Rattle.libos_state.specs.Answered as spec;
 ghost use Rattle.libos_state.specs.Kept.{IsWriting, KeptAt};
 ghost use Rattle.libos_calls.specs.Families.{is_service, is_opening, is_making};
 ghost use Rattle.libos_calls.specs.Left.{IsLengthSmall};
-ghost use Rattle.libos_state.specs.declared.state.LibOs.{LibOs};
 
 use crate::calls::PIECE;
 use crate::kept::{first_items, number_at};
@@ -15,8 +14,8 @@ use abi_calls::Reply;
 use bas_edge::Memory;
 use bas_items::Items;
 use libos_state::{
-    Boot, Cont, Description, DescriptorNote, Kind, LibOs, ProcessNote, ProgramRefusal, Stage,
-    ThreadNote,
+    Boot, Change, Cont, Description, DescriptorNote, Kind, ProcessNote, ProgramRefusal, Stage,
+    Step, ThreadNote,
 };
 use std::alloc::{AllocError, Global};
 
@@ -88,7 +87,7 @@ fn at_stage(alloc: Global, mut cont: Cont, stage: Stage) -> Cont
 
 /// The next end of the console is open.
 fn console_opened(alloc: Global, cont: Cont, handle: u64) -> Result<Cont, AllocError>
-    ensures { IfOk result (λ next. (os : LibOs) → spec.opens_on os cont (cont.handles ++ handle ∷ []) ≡ spec.goes_on os next) }
+    ensures { IfOk result (λ next. next ≡ spec.start_opening cont (cont.handles ++ handle ∷ [])) }
 {
     let handles = with_handle(alloc, cont.handles.as_slice(), handle)?;
     if handles.len() == CONSOLES {
@@ -99,7 +98,7 @@ fn console_opened(alloc: Global, cont: Cont, handle: u64) -> Result<Cont, AllocE
 
 /// The program's length is known.
 fn length_known(alloc: Global, mut cont: Cont, length: u64) -> Result<Cont, AllocError>
-    ensures { IfOk result (λ next. (os : LibOs) → spec.reads_length os cont length ≡ spec.goes_on os next) }
+    ensures { IfOk result (λ next. next ≡ spec.start_reading cont length) }
 {
     cont.bytes = Items::new(alloc);
     if length == 0 {
@@ -113,7 +112,7 @@ fn length_known(alloc: Global, mut cont: Cont, length: u64) -> Result<Cont, Allo
 /// More of the program was read.
 fn piece_read(alloc: Global, mut cont: Cont, piece: &[u8]) -> Result<Cont, AllocError>
     requires { cont.stage ≡ Stage.ReadProgram }
-    ensures { IfOk result (λ next. (os : LibOs) → spec.reads_on os cont piece.now ≡ spec.goes_on os next) }
+    ensures { IfOk result (λ next. next ≡ spec.start_with_piece cont piece.now) }
 {
     if piece.is_empty() {
         return Ok(at_stage(alloc, cont, Stage::CloseProgram));
@@ -129,7 +128,7 @@ fn piece_read(alloc: Global, mut cont: Cont, piece: &[u8]) -> Result<Cont, Alloc
 fn written_to(alloc: Global, mut cont: Cont, written: u64, size: u64) -> Result<Cont, AllocError>
     requires stage { cont.stage ≡ Stage.WriteRun }
     requires size { size ≡ length (run_in cont).bytes }
-    ensures { IfOk result (λ next. (os : LibOs) → spec.writes_on os cont written ≡ spec.goes_on os next) }
+    ensures { IfOk result (λ next. next ≡ spec.start_writing cont written) }
 {
     if written < size {
         cont.numbers = Items::from_slice(alloc, &[0, written])?;
@@ -144,7 +143,7 @@ fn written_to(alloc: Global, mut cont: Cont, written: u64, size: u64) -> Result<
 fn piece_written(alloc: Global, cont: Cont) -> Result<Cont, AllocError>
     requires stage { cont.stage ≡ Stage.WriteRun }
     requires kept { IsWriting cont }
-    ensures { IfOk result (λ next. (os : LibOs) → spec.writes_on os cont (number cont 1 + length (run_piece cont)) ≡ spec.goes_on os next) }
+    ensures { IfOk result (λ next. next ≡ spec.start_writing cont (number cont 1 + length (run_piece cont))) }
 {
     let size = count_of_pages(cont.bytes.as_slice()) * PAGE;
     let written = number_at(cont.numbers.as_slice(), 1);
@@ -196,185 +195,171 @@ fn console_descriptors(alloc: Global) -> Result<Items<DescriptorNote>, AllocErro
     Items::from_slice(alloc, &[input, output, errors])
 }
 
-/// The run has begun: the library OS knows its first process and thread.
-fn come_up(os: &mut LibOs, alloc: Global, handles: &[u64]) -> Result<(), AllocError>
-    requires { os.old.cont ≡ None }
-    ensures { OnOk result ((c : Cont) → c.handles ≡ handles.now → os.new ≡ spec.comes_up os.old c) }
+/// The records of the run's first process, of its thread and of the console.
+fn first_records(alloc: Global, handles: &[u64]) -> Result<Change, AllocError>
+    ensures { IfOk result (λ change. (c : Cont) → c.handles ≡ handles.now → change ≡ spec.change c Stage.StartThread Reply.Done) }
 {
     let descriptions = console_descriptions(alloc, handles)?;
     let descriptors = console_descriptors(alloc)?;
-    let mut processes = Items::new(alloc);
-    processes.push(ProcessNote {
-        pid: 1,
-        handle: number_at(handles, 3),
-        code: None,
-        descriptors,
-    })?;
-    let thread = ThreadNote {
-        tid: 1,
-        pid: 1,
-        handle: number_at(handles, 4),
-        event: number_at(handles, 5),
-    };
-    os.threads = Items::from_slice(alloc, &[thread])?;
-    os.processes = processes;
-    os.descriptions = descriptions;
-    os.boot = Boot::Up;
-    os.next_id = 2;
-    Ok(())
+    Ok(Change::Begins {
+        process: ProcessNote {
+            pid: 1,
+            handle: number_at(handles, 3),
+            code: None,
+            descriptors,
+        },
+        thread: ThreadNote {
+            tid: 1,
+            pid: 1,
+            handle: number_at(handles, 4),
+            event: number_at(handles, 5),
+        },
+        descriptions,
+    })
 }
 
-/// What a start keeps after a reply up to the program's loading; `None` where it ends.
-fn reading_after(alloc: Global, cont: Cont, reply: &Reply) -> Result<Option<Cont>, AllocError>
-    requires { is_opening cont.stage ≡ true }
-    ensures { IfOk result (λ next. (os : LibOs) → spec.next os cont cont.stage reply.now ≡ record os { cont = next }) }
+/// What a reply changes of the records.
+pub fn change_of(alloc: Global, cont: &Cont, reply: &Reply) -> Result<Change, AllocError>
+    ensures { IfOk result (λ change. change ≡ spec.change cont.now cont.now.stage reply.now) }
 {
     match (cont.stage, reply) {
-        (Stage::Configure, Reply::Done) => {
-            Ok(Some(with_handles(alloc, cont, Stage::OpenConsole, Items::new(alloc))))
-        }
-        (Stage::OpenConsole, Reply::Handle(handle)) => {
-            let next = console_opened(alloc, cont, *handle)?;
-            Ok(Some(next))
-        }
-        (Stage::ReadProgram, Reply::Bytes(bytes)) => {
-            let next = piece_read(alloc, cont, bytes.as_slice())?;
-            Ok(Some(next))
-        }
-        _ => Ok(None),
+        (Stage::StartThread, Reply::Done) => first_records(alloc, cont.handles.as_slice()),
+        _ => Ok(Change::Same),
     }
 }
 
-/// What a start keeps after a reply once the program is loaded; `None` where it ends.
-fn making_after(alloc: Global, mut cont: Cont, reply: &Reply) -> Result<Option<Cont>, AllocError>
+/// What a start does on a reply where it opens or reads.
+fn reading_step(alloc: Global, cont: Cont, reply: &Reply) -> Result<Step, AllocError>
+    requires { is_opening cont.stage ≡ true }
+    ensures { IfOk result (λ step. step ≡ spec.next cont cont.stage reply.now) }
+{
+    match (cont.stage, reply) {
+        (Stage::Configure, Reply::Done) => {
+            Ok(Step::Asks(with_handles(alloc, cont, Stage::OpenConsole, Items::new(alloc))))
+        }
+        (Stage::OpenConsole, Reply::Handle(handle)) => {
+            let next = console_opened(alloc, cont, *handle)?;
+            Ok(Step::Asks(next))
+        }
+        (Stage::ReadProgram, Reply::Bytes(bytes)) => {
+            let next = piece_read(alloc, cont, bytes.as_slice())?;
+            Ok(Step::Asks(next))
+        }
+        _ => Ok(Step::Ends),
+    }
+}
+
+/// What a start does on a reply once the program is loaded.
+fn making_step(alloc: Global, mut cont: Cont, reply: &Reply) -> Result<Step, AllocError>
     requires kept { KeptAt cont cont.stage }
     requires stage { is_making cont.stage ≡ true }
-    ensures { IfOk result (λ next. (os : LibOs) → spec.next os cont cont.stage reply.now ≡ record os { cont = next }) }
+    ensures { IfOk result (λ step. step ≡ spec.next cont cont.stage reply.now) }
 {
     match (cont.stage, reply) {
         (Stage::CreateProcess, Reply::Handle(handle)) => {
             cont.handles = with_handle(alloc, cont.handles.as_slice(), *handle)?;
             cont.numbers = Items::from_slice(alloc, &[0])?;
             cont.stage = Stage::AllocateRun;
-            Ok(Some(cont))
+            Ok(Step::Asks(cont))
         }
         (Stage::AllocateRun, Reply::Done) => {
             cont.numbers = Items::from_slice(alloc, &[0, 0])?;
             cont.stage = Stage::WriteRun;
-            Ok(Some(cont))
+            Ok(Step::Asks(cont))
         }
         (Stage::WriteRun, Reply::Done) => {
             let next = piece_written(alloc, cont)?;
-            Ok(Some(next))
+            Ok(Step::Asks(next))
         }
-        (Stage::ProtectRun, Reply::Done) => Ok(Some(at_stage(alloc, cont, Stage::AllocateStack))),
-        (Stage::AllocateStack, Reply::Done) => Ok(Some(at_stage(alloc, cont, Stage::WriteBlock))),
-        (Stage::WriteBlock, Reply::Done) => Ok(Some(at_stage(alloc, cont, Stage::CreateThread))),
+        (Stage::ProtectRun, Reply::Done) => {
+            Ok(Step::Asks(at_stage(alloc, cont, Stage::AllocateStack)))
+        }
+        (Stage::AllocateStack, Reply::Done) => {
+            Ok(Step::Asks(at_stage(alloc, cont, Stage::WriteBlock)))
+        }
+        (Stage::WriteBlock, Reply::Done) => {
+            Ok(Step::Asks(at_stage(alloc, cont, Stage::CreateThread)))
+        }
         (Stage::CreateThread, Reply::Handle(handle)) => {
             cont.handles = with_handle(alloc, cont.handles.as_slice(), *handle)?;
-            Ok(Some(at_stage(alloc, cont, Stage::CreateEvent)))
+            Ok(Step::Asks(at_stage(alloc, cont, Stage::CreateEvent)))
         }
         (Stage::CreateEvent, Reply::Handle(handle)) => {
             cont.handles = with_handle(alloc, cont.handles.as_slice(), *handle)?;
-            Ok(Some(at_stage(alloc, cont, Stage::StartThread)))
+            Ok(Step::Asks(at_stage(alloc, cont, Stage::StartThread)))
         }
-        _ => Ok(None),
+        _ => Ok(Step::Ends),
     }
 }
 
-/// The program's file is closed: its bytes are a program, or the start ends.
-fn file_closed(os: &mut LibOs, alloc: Global, mut cont: Cont) -> Result<(), AllocError>
-    requires { os.old.cont ≡ None }
-    ensures { OnOk result (os.new ≡ spec.loads os.old cont (is_plain cont.bytes)) }
+/// What a start does where the program's file is closed: its bytes are a program, or it stops.
+fn loading_step(alloc: Global, mut cont: Cont) -> Result<Step, AllocError>
+    ensures { IfOk result (λ step. step ≡ spec.load_step cont (is_plain cont.bytes)) }
 {
     if !is_program(alloc, cont.bytes.as_slice())? {
-        os.boot = Boot::BadProgram(ProgramRefusal::Later);
-        return Ok(());
+        return Ok(Step::Stops(Boot::BadProgram(ProgramRefusal::Later)));
     }
     cont.handles = Items::from_slice(alloc, first_items(cont.handles.as_slice(), CONSOLES))?;
-    os.cont = Some(at_stage(alloc, cont, Stage::CreateProcess));
-    Ok(())
+    Ok(Step::Asks(at_stage(alloc, cont, Stage::CreateProcess)))
 }
 
-/// The program's file is open, or can't be opened.
-fn program_opened(
-    os: &mut LibOs,
-    alloc: Global,
-    cont: Cont,
-    reply: &Reply,
-) -> Result<(), AllocError>
-    requires { os.old.cont ≡ None }
-    ensures { OnOk result (os.new ≡ spec.next os.old cont Stage.OpenProgram reply.now) }
+/// What a start does where the program's file is open, or can't be opened.
+fn opening_step(alloc: Global, cont: Cont, reply: &Reply) -> Result<Step, AllocError>
+    ensures { IfOk result (λ step. step ≡ spec.next cont Stage.OpenProgram reply.now) }
 {
     let Reply::Handle(handle) = reply else {
-        os.boot = Boot::NoProgram;
-        return Ok(());
+        return Ok(Step::Stops(Boot::NoProgram));
     };
     let handles = with_handle(alloc, cont.handles.as_slice(), *handle)?;
-    os.cont = Some(with_handles(alloc, cont, Stage::ProgramLength, handles));
-    Ok(())
+    Ok(Step::Asks(with_handles(alloc, cont, Stage::ProgramLength, handles)))
 }
 
-/// The program's length is known, or the start ends.
-fn program_measured(
-    os: &mut LibOs,
-    alloc: Global,
-    cont: Cont,
-    reply: &Reply,
-) -> Result<(), AllocError>
-    requires { os.old.cont ≡ None }
-    ensures value { OnOk result (os.new ≡ spec.next os.old cont Stage.ProgramLength reply.now) }
+/// What a start does where the program's length is known.
+fn length_step(alloc: Global, cont: Cont, reply: &Reply) -> Result<Step, AllocError>
+    ensures value { IfOk result (λ step. step ≡ spec.next cont Stage.ProgramLength reply.now) }
     ensures small { OnOk result (IsLengthSmall reply.now) }
 {
-    if let Reply::Length(length) = reply {
-        os.cont = Some(length_known(alloc, cont, *length)?);
-    }
-    Ok(())
+    let Reply::Length(length) = reply else {
+        return Ok(Step::Ends);
+    };
+    let next = length_known(alloc, cont, *length)?;
+    Ok(Step::Asks(next))
 }
 
-/// A start takes the reply to its pending call.
-pub fn answered_start(
-    os: &mut LibOs,
-    alloc: Global,
-    cont: Cont,
-    reply: &Reply,
-) -> Result<(), Memory>
-    requires none { os.old.cont ≡ None }
+/// What a start does on a reply.
+pub fn start_step(alloc: Global, cont: Cont, reply: &Reply) -> Result<Step, Memory>
     requires stage { is_service cont.stage ≡ false }
     requires kept { KeptAt cont cont.stage }
-    ensures value { OnOk result (os.new ≡ spec.next os.old cont cont.stage reply.now) }
+    ensures value { IfOk result (λ step. step ≡ spec.next cont cont.stage reply.now) }
     ensures small { OnOk result (cont.stage ≡ Stage.ProgramLength → IsLengthSmall reply.now) }
 {
     match cont.stage {
         Stage::OpenProgram => {
-            program_opened(os, alloc, cont, reply)?;
-            Ok(())
+            let step = opening_step(alloc, cont, reply)?;
+            Ok(step)
         }
         Stage::CloseProgram => match reply {
             Reply::Done => {
-                file_closed(os, alloc, cont)?;
-                Ok(())
+                let step = loading_step(alloc, cont)?;
+                Ok(step)
             }
-            _ => Ok(()),
+            _ => Ok(Step::Ends),
         },
         Stage::StartThread => match reply {
-            Reply::Done => {
-                come_up(os, alloc, cont.handles.as_slice())?;
-                Ok(())
-            }
-            _ => Ok(()),
+            Reply::Done => Ok(Step::Stops(Boot::Up)),
+            _ => Ok(Step::Ends),
         },
         Stage::ProgramLength => {
-            program_measured(os, alloc, cont, reply)?;
-            Ok(())
+            let step = length_step(alloc, cont, reply)?;
+            Ok(step)
         }
         Stage::Configure | Stage::OpenConsole | Stage::ReadProgram => {
-            os.cont = reading_after(alloc, cont, reply)?;
-            Ok(())
+            let step = reading_step(alloc, cont, reply)?;
+            Ok(step)
         }
         _ => {
-            os.cont = making_after(alloc, cont, reply)?;
-            Ok(())
+            let step = making_step(alloc, cont, reply)?;
+            Ok(step)
         }
     }
 }

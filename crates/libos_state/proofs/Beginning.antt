@@ -29,12 +29,11 @@ use Rattle.libos_state.specs.declared.cont.Cont.{Cont}
 use Rattle.libos_state.specs.declared.cont.Stage.TheVariants.{StartThread}
 use Rattle.libos_state.specs.declared.notes.Description.{Description}
 use Rattle.libos_state.specs.declared.notes.Kind.TheVariants as kind
-use Rattle.libos_state.specs.declared.notes.ProcessNote.{ProcessNote}
 use Rattle.libos_state.specs.declared.notes.ThreadNote.{ThreadNote}
 use Rattle.libos_state.specs.declared.state.LibOs.{LibOs}
 use Rattle.libos_state.specs.Records.{stream_of_kind, tids_of}
 use Rattle.libos_state.specs.Pending.{asked, handle, file_or_child}
-use Rattle.libos_state.specs.Answered.{comes_up, console_descriptors}
+use Rattle.libos_state.specs.Answered.{answered_at, first_process, first_thread}
 use Rattle.libos_state.specs.Entered.{booting}
 use Rattle.libos_state.specs.Meaning.{unstarted, child_memory, child_context}
 use Rattle.libos_state.specs.Fits.{FitsStage, FitsEvent, FitsRecords, IsStream, Opened, Closable, is_closable, NoneLive, passes}
@@ -143,7 +142,7 @@ first_ready n ready none =
     ap (λ ts. tids_of (n ∷ []) (ts ++ n.handle ∷ [])) none ∙ ap (λ b. filter_map (λ (x : Option ThreadNote). option_map (λ m. m.tid) x) ((if b then Some n else None) ∷ [])) (eq-eqb n.handle n.handle refl)
 
 begun_records : (os : LibOs) (c : Cont) (o : Objects) → FitsEvent os o c →
-    FitsRecords (comes_up os c) o.live (record { pid = 1; handle = file_or_child c; code = None; descriptors = console_descriptors }) (record { tid = 1; pid = 1; handle = handle c 4; event = handle c 5 })
+    FitsRecords (answered_at os c StartThread Done) o.live (first_process c) (first_thread c)
 begun_records os c o fits =
     let count = fits.thread.count in
     let console = console_of o.live c.handles (omega arith) fits.thread.opened in
@@ -165,8 +164,6 @@ begun_records os c o fits =
 pub keeps_start_thread : (os : LibOs) (c : Cont) (w w' : World) (r : Reply) → FitsStage os w.objects c StartThread → IsSound w.objects → Abi w (asked os c StartThread) r w' → Holds os c StartThread w r w'
 keeps_start_thread os c w w' r fits sound abi =
     let t = handle c 4 in
-    let process : ProcessNote = record { pid = 1; handle = file_or_child c; code = None; descriptors = console_descriptors } in
-    let thread : ThreadNote = record { tid = 1; pid = 1; handle = t; event = handle c 5 } in
     let row : answer w (asked os c StartThread) r ≡ (Done, with_objects w (resumed_objects w.objects t)) =
     resume_suspended w t (file_or_child c) fits.thread.context r fits.thread.thread fits.thread.suspended in
     let records = begun_records os c w.objects fits in
@@ -174,12 +171,12 @@ keeps_start_thread os c w w' r fits sound abi =
     (record {
       fits = record {
         up = refl;
-        process = process;
-        thread = thread;
+        process = first_process c;
+        thread = first_thread c;
         records = records;
         ready = ap (λ ts. ts ++ t ∷ []) fits.thread.start.ready;
         suspended = none_rests t w.objects.lists.suspended fits.thread.suspended;
         current = ap (other_than t) fits.thread.start.current;
       };
-      means = ap (λ ts. Runs (record (begun (unstarted w) (child_memory w c) (child_context w c)) { ready = ts })) (first_ready thread w.objects.lists.ready fits.thread.start.ready);
+      means = ap (λ ts. Runs (record (begun (unstarted w) (child_memory w c) (child_context w c)) { ready = ts })) (first_ready (first_thread c) w.objects.lists.ready fits.thread.start.ready);
     })

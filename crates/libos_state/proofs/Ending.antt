@@ -23,7 +23,7 @@ use Rattle.libos_state.specs.declared.cont.Stage.TheVariants.{CloseHandles, Exit
 use Rattle.libos_state.specs.declared.state.LibOs.{LibOs}
 use Rattle.libos_state.specs.Records.{base}
 use Rattle.libos_state.specs.Pending.{asked, upcall_in, handle, number}
-use Rattle.libos_state.specs.Answered.{ends, closes_on}
+use Rattle.libos_state.specs.Answered.{goes_on, ends, service_closing}
 use Rattle.libos_state.specs.Meaning.{meaning, meant_idle}
 use Rattle.libos_state.specs.Fits.{Fits, FitsEnding, FitsClosing, FitsOver, Closable, is_closable}
 use Rattle.libos_state.proofs.Holds.{Holds}
@@ -69,11 +69,11 @@ ending_on os cont o c c' event numbers fits =
     ending_over os cont o o c c' event numbers fits (record { process_stays = refl; thread_stays = refl; ready = fits.ready; suspended = fits.suspended; current = fits.current })
 
 -- Closing goes on with the handles that are left, or the process exits.
-pub closes_fits : (os : LibOs) (o : Objects) (c : Cont) (hs : List ℕ) → FitsEnding os o c → Closable o.live hs → Fits (closes_on os c hs) o
+pub closes_fits : (os : LibOs) (o : Objects) (c : Cont) (hs : List ℕ) → FitsEnding os o c → Closable o.live hs → Fits (goes_on os (service_closing c hs)) o
 closes_fits os o c [] fits closable = ending_on os _ o c _ refl refl fits
 closes_fits os o c (h ∷ hs) fits closable = record { ending = ending_on os _ o c _ refl refl fits; some = λ none. cc; closable = closable }
 
-pub closes_means : (os : LibOs) (w : World) (c : Cont) (hs : List ℕ) → meaning (closes_on os c hs) w ≡ Runs (base os w)
+pub closes_means : (os : LibOs) (w : World) (c : Cont) (hs : List ℕ) → meaning (goes_on os (service_closing c hs)) w ≡ Runs (base os w)
 closes_means os w c [] = refl
 closes_means os w c (h ∷ hs) = refl
 

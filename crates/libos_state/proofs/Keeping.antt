@@ -23,7 +23,7 @@ use Rattle.libos_state.specs.declared.cont.Cont.{Cont}
 use Rattle.libos_state.specs.declared.cont.Stage.{Stage}
 use Rattle.libos_state.specs.declared.state.LibOs.{LibOs}
 use Rattle.libos_state.specs.Pending.{asked}
-use Rattle.libos_state.specs.Answered.{next}
+use Rattle.libos_state.specs.Answered.{answered_at}
 use Rattle.libos_state.specs.Meaning.{meaning, meant_at}
 use Rattle.libos_state.specs.Fits.{Fits, NoneLive, IsLoneThread, passes}
 use Rattle.libos_state.proofs.Holds.{Holds}
@@ -36,7 +36,7 @@ pub record Stands (os : LibOs) (w : World) (m : Started) : Type 0 where
 
 -- The row of a call fixes the reply and the new world: a stage owes that the library OS which comes of it stands there.
 pub by_row : (os : LibOs) (c : Cont) (stage : Stage) (w w' : World) (r : Reply) (x : Answer) → Abi w (asked os c stage) r w' → answer w (asked os c stage) r ≡ x →
-    Stands (next os c stage x.0) x.1 (meant_at os w c stage) → Holds os c stage w r w'
+    Stands (answered_at os c stage x.0) x.1 (meant_at os w c stage) → Holds os c stage w r w'
 by_row os c stage w w' r x abi row stands = holds_by os c stage w w' r x abi row (record { fits = stands.fits; means = stands.means })
 
 -- A handle that is given is fresh.

@@ -25,7 +25,7 @@ use Rattle.libos_state.specs.declared.cont.Stage.{Stage}
 use Rattle.libos_state.specs.declared.cont.Stage.TheVariants.{ProgramLength, ReadProgram, CloseProgram, CreateProcess}
 use Rattle.libos_state.specs.declared.state.LibOs.{LibOs}
 use Rattle.libos_state.specs.Pending.{number, arguments, asked, file_or_child, PIECE}
-use Rattle.libos_state.specs.Answered.{goes_on, starting, loads}
+use Rattle.libos_state.specs.Answered.{goes_on, starting, with_step, load_step}
 use Rattle.libos_state.specs.Meaning.{unstarted, name_in, program_file, meant_at}
 use Rattle.libos_state.specs.Fits.{FitsFile, FitsReading, FitsStage, IsStream, Opened}
 use Rattle.libos_state.proofs.Holds.{Holds}
@@ -45,7 +45,7 @@ file_goes_on os o c stage bytes numbers fits = record {
 -- ---- its length is asked for
 
 length_stands : (os : LibOs) (c : Cont) (w : World) (size : ℕ) (b : Bool) → FitsFile os w.objects c → length (program_file w c) ≡ size → (size == 0) ≡ b →
-    Stands (if b then goes_on os (starting c CloseProgram [] c.handles []) else goes_on os (starting c ReadProgram [] c.handles (size ∷ []))) w (started_with (unstarted w) (arguments c) (program_file w c))
+    Stands (goes_on os (if b then starting c CloseProgram [] c.handles [] else starting c ReadProgram [] c.handles (size ∷ []))) w (started_with (unstarted w) (arguments c) (program_file w c))
 length_stands os c w size true fits long empty =
     let none : program_file w c ≡ [] = nil_from_length (program_file w c) (long ∙ eqb-true size 0 empty) in
     record { fits = file_goes_on os w.objects c CloseProgram [] [] fits; means = ap (started_with (unstarted w) (arguments c)) (sym none) }
@@ -74,9 +74,9 @@ size_kept os c o fits = ap (λ ns. slice_index ns 0) fits.kept
 
 -- Nothing more is there, the last piece came, or more is to be read.
 piece_stands : (os : LibOs) (c : Cont) (w : World) (none last : Bool) → FitsReading os w.objects c → (length (piece_of w c) == 0) ≡ none → nat_le (number c 0) (length (c.bytes ++ piece_of w c)) ≡ last →
-    Stands (if none then goes_on os (starting c CloseProgram c.bytes c.handles [])
-    else (if last then goes_on os (starting c CloseProgram (c.bytes ++ piece_of w c) c.handles [])
-    else goes_on os (starting c ReadProgram (c.bytes ++ piece_of w c) c.handles c.numbers))) w (meant_at os w c ReadProgram)
+    Stands (goes_on os (if none then starting c CloseProgram c.bytes c.handles []
+    else (if last then starting c CloseProgram (c.bytes ++ piece_of w c) c.handles []
+    else starting c ReadProgram (c.bytes ++ piece_of w c) c.handles c.numbers))) w (meant_at os w c ReadProgram)
 piece_stands os c w true last fits none _ =
     let size = size_kept os c w.objects fits in
     let more = fits.more in
@@ -127,7 +127,7 @@ console_kept o h file held a name console there =
     object_at-left o (λ k. k == h) a (ne_eqb a h apart) ∙ there
 
 closed_stands : (os : LibOs) (c : Cont) (w : World) (plain : Bool) → FitsFile os w.objects c → is_plain c.bytes ≡ plain →
-    Stands (loads os c plain) (with_objects w (without_handles w.objects (λ k. k == file_or_child c))) (started_with (unstarted w) (arguments c) c.bytes)
+    Stands (with_step os (load_step c plain)) (with_objects w (without_handles w.objects (λ k. k == file_or_child c))) (started_with (unstarted w) (arguments c) c.bytes)
 closed_stands os c w true fits plain =
     let h = file_or_child c in
     let o = without_handles w.objects (λ k. k == h) in

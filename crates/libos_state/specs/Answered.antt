@@ -1,5 +1,5 @@
--- What the library OS becomes on a reply: one row for each stage. A reply that the stage doesn't list ends the service;
--- no host that keeps to its contract gives one.
+-- What a service does on a reply, and what a reply changes of the records: one row for each stage. A
+-- reply that the stage doesn't list ends the service; no host that keeps to its contract gives one.
 use Rattle.std.specs.Prelude.{ℕ, ◌+◌, ◌==◌, Bool, true, false, if◌then◌else◌, List, [], ◌∷◌, ◌++◌, length, take, drop, nat_lt, nat_le}
 use Rattle.std.specs.declared.option.Option.{Option}
 use Rattle.std.specs.declared.option.Option.TheVariants.{None, Some}
@@ -13,61 +13,108 @@ use Rattle.libos_state.specs.declared.cont.Stage.{Stage}
 use Rattle.libos_state.specs.declared.cont.Stage.TheVariants.{SetContext, Resume, CloseHandles, ExitProcess, ReadMemory, WriteStream, Configure, OpenConsole, OpenProgram, ProgramLength, ReadProgram, CloseProgram, CreateProcess, AllocateRun, WriteRun, ProtectRun, AllocateStack, WriteBlock, CreateThread, CreateEvent, StartThread}
 use Rattle.libos_state.specs.declared.notes.Description.{Description}
 use Rattle.libos_state.specs.declared.notes.DescriptorNote.{DescriptorNote}
+use Rattle.libos_state.specs.declared.notes.ProcessNote.{ProcessNote}
+use Rattle.libos_state.specs.declared.notes.ThreadNote.{ThreadNote}
 use Rattle.libos_state.specs.declared.notes.ProgramRefusal.TheVariants.{Later}
 use Rattle.libos_state.specs.declared.notes.Kind.TheVariants.{ConIn, ConOut, ConErr}
 use Rattle.libos_state.specs.declared.state.Boot.TheVariants.{Up, NoProgram, BadProgram}
 use Rattle.libos_state.specs.declared.state.LibOs.{LibOs}
+use Rattle.libos_state.specs.declared.step.Change.{Change}
+use Rattle.libos_state.specs.declared.step.Change.TheVariants.{Same, Begins}
+use Rattle.libos_state.specs.declared.step.Step.{Step}
+use Rattle.libos_state.specs.declared.step.Step.TheVariants.{Asks, Ends, Stops}
 use Rattle.libos_state.specs.Pending.{upcall_in, handle, number, run_in, run_piece, file_or_child}
 
--- The service goes on with these, or ends.
+-- The service goes on with these, or has ended.
 abbrev pub goes_on : LibOs → Cont → LibOs
 goes_on os c = record os { cont = Some c }
 
 abbrev pub ends : LibOs → LibOs
 ends os = record os { cont = None }
 
+-- The library OS after a step of its service.
+abbrev pub with_step : LibOs → Step → LibOs
+with_step os (Asks c) = goes_on os c
+with_step os Ends = ends os
+with_step os (Stops boot) = record os { boot = boot; cont = None }
+
+-- The library OS with its records changed; the next id is behind those of the run's first process
+-- and its thread, which are both 1.
+abbrev pub with_change : LibOs → Change → LibOs
+with_change os Same = os
+with_change os (Begins process thread descriptions) = record os {
+  next_id = 2;
+  processes = process ∷ [];
+  threads = thread ∷ [];
+  descriptions = descriptions;
+}
+
 -- A stage that keeps nothing: its registers are those at the trap.
 abbrev pub bare : Cont → Stage → Cont
-bare c stage = record { event = c.event; stage = stage; next = (upcall_in c.event).context; names = []; bytes = []; handles = []; numbers = [] }
+bare c stage = record {
+  event = c.event;
+  stage = stage;
+  next = (upcall_in c.event).context;
+  names = [];
+  bytes = [];
+  handles = [];
+  numbers = [];
+}
 
--- The system call's result is known: the thread gets it and the next instruction, and becomes ready.
-abbrev pub finishes : LibOs → Cont → ℕ → LibOs
-finishes os c result = goes_on os (record (bare c SetContext) { next = returned (upcall_in c.event).context result })
+-- The system call's result is known: the thread gets it and the next instruction, and becomes
+-- ready.
+abbrev pub service_with_result : Cont → ℕ → Cont
+service_with_result c result =
+    record (bare c SetContext) { next = returned (upcall_in c.event).context result }
+
+-- The handles of the process that ends are closed one after another, and then it exits.
+abbrev pub service_closing : Cont → List ℕ → Cont
+service_closing c [] = record (bare c ExitProcess) { numbers = c.numbers }
+service_closing c (h ∷ hs) =
+    record (bare c CloseHandles) { handles = h ∷ hs; numbers = c.numbers }
 
 -- A start that keeps these.
 abbrev pub starting : Cont → Stage → List ℕ → List ℕ → List ℕ → Cont
-starting c stage bytes handles numbers = record c { stage = stage; bytes = bytes; handles = handles; numbers = numbers }
+starting c stage bytes handles numbers =
+    record c { stage = stage; bytes = bytes; handles = handles; numbers = numbers }
 
-abbrev pub closes_on : LibOs → Cont → List ℕ → LibOs
-closes_on os c [] = goes_on os (record (bare c ExitProcess) { numbers = c.numbers })
-closes_on os c (h ∷ hs) = goes_on os (record (bare c CloseHandles) { handles = h ∷ hs; numbers = c.numbers })
+-- The ends of the console are opened one after another, and then the program's file.
+abbrev pub start_opening : Cont → List ℕ → Cont
+start_opening c handles =
+    starting c (if length handles == 3 then OpenProgram else OpenConsole) [] handles []
 
-abbrev pub opens_on : LibOs → Cont → List ℕ → LibOs
-opens_on os c handles = goes_on os (starting c (if length handles == 3 then OpenProgram else OpenConsole) [] handles [])
+-- The file has so many bytes, or none to be read.
+abbrev pub start_reading : Cont → ℕ → Cont
+start_reading c size =
+    if size == 0 then starting c CloseProgram [] c.handles []
+    else starting c ReadProgram [] c.handles (size ∷ [])
 
-abbrev pub reads_length : LibOs → Cont → ℕ → LibOs
-reads_length os c size =
-    if size == 0 then goes_on os (starting c CloseProgram [] c.handles [])
-    else goes_on os (starting c ReadProgram [] c.handles (size ∷ []))
+-- The file is read until no bytes come, or all have come.
+abbrev pub start_with_piece : Cont → List ℕ → Cont
+start_with_piece c bytes =
+    if length bytes == 0 then starting c CloseProgram c.bytes c.handles []
+    else (if nat_le (number c 0) (length (c.bytes ++ bytes))
+    then starting c CloseProgram (c.bytes ++ bytes) c.handles []
+    else starting c ReadProgram (c.bytes ++ bytes) c.handles c.numbers)
 
-abbrev pub reads_on : LibOs → Cont → List ℕ → LibOs
-reads_on os c bytes =
-    if length bytes == 0 then goes_on os (starting c CloseProgram c.bytes c.handles [])
-    else (if nat_le (number c 0) (length (c.bytes ++ bytes)) then goes_on os (starting c CloseProgram (c.bytes ++ bytes) c.handles [])
-    else goes_on os (starting c ReadProgram (c.bytes ++ bytes) c.handles c.numbers))
+-- The bytes are a program, which is loaded, or they are none.
+abbrev pub load_step : Cont → Bool → Step
+load_step c true = Asks (starting c CreateProcess c.bytes (take 3 c.handles) [])
+load_step c false = Stops (BadProgram Later)
 
-abbrev pub loads : LibOs → Cont → Bool → LibOs
-loads os c true = goes_on os (starting c CreateProcess c.bytes (take 3 c.handles) [])
-loads os c false = record os { boot = BadProgram Later; cont = None }
-
-abbrev pub writes_on : LibOs → Cont → ℕ → LibOs
-writes_on os c written =
-    goes_on os (if nat_lt written (length (run_in c).bytes) then starting c WriteRun c.bytes c.handles (0 ∷ written ∷ [])
-    else starting c ProtectRun c.bytes c.handles (0 ∷ []))
+-- The run's bytes are written piece by piece, and then it gets its rights.
+abbrev pub start_writing : Cont → ℕ → Cont
+start_writing c written =
+    if nat_lt written (length (run_in c).bytes)
+    then starting c WriteRun c.bytes c.handles (0 ∷ written ∷ [])
+    else starting c ProtectRun c.bytes c.handles (0 ∷ [])
 
 -- The records of the run's first process, with the console as its descriptors 0, 1 and 2.
 abbrev pub console_descriptors : List DescriptorNote
-console_descriptors = record { number = 0; description = 1 } ∷ record { number = 1; description = 2 } ∷ record { number = 2; description = 3 } ∷ []
+console_descriptors =
+    record { number = 0; description = 1 } ∷
+    record { number = 1; description = 2 } ∷
+    record { number = 2; description = 3 } ∷ []
 
 abbrev pub console_descriptions : Cont → List Description
 console_descriptions c =
@@ -75,44 +122,55 @@ console_descriptions c =
     record { id = 2; handle = handle c 1; kind = ConOut; access = 2 } ∷
     record { id = 3; handle = handle c 2; kind = ConErr; access = 2 } ∷ []
 
-abbrev pub comes_up : LibOs → Cont → LibOs
-comes_up os c = record os {
-  boot = Up;
-  next_id = 2;
-  processes = record { pid = 1; handle = file_or_child c; code = None; descriptors = console_descriptors } ∷ [];
-  threads = record { tid = 1; pid = 1; handle = handle c 4; event = handle c 5 } ∷ [];
-  descriptions = console_descriptions c;
-  cont = None;
-}
+abbrev pub first_process : Cont → ProcessNote
+first_process c =
+    record { pid = 1; handle = file_or_child c; code = None; descriptors = console_descriptors }
 
-abbrev pub next : LibOs → Cont → Stage → Reply → LibOs
-next os c SetContext Done = goes_on os (bare c Resume)
-next os c CloseHandles Done = closes_on os c (drop 1 c.handles)
-next os c ReadMemory (Bytes bytes) = goes_on os (record (bare c WriteStream) { bytes = bytes; numbers = 0 ∷ [] })
-next os c ReadMemory BadAddress = finishes os c (error EFAULT)
-next os c ReadMemory NoAccess = finishes os c (error EFAULT)
-next os c WriteStream (Count n) = finishes os c n
-next os c Configure Done = goes_on os (starting c OpenConsole [] [] [])
-next os c OpenConsole (Handle h) = opens_on os c (c.handles ++ h ∷ [])
-next os c OpenProgram (Handle h) = goes_on os (starting c ProgramLength [] (c.handles ++ h ∷ []) [])
-next os c OpenProgram _ = record os { boot = NoProgram; cont = None }
-next os c ProgramLength (Length size) = reads_length os c size
-next os c ReadProgram (Bytes bytes) = reads_on os c bytes
-next os c CloseProgram Done = loads os c (is_plain c.bytes)
-next os c CreateProcess (Handle h) = goes_on os (starting c AllocateRun c.bytes (c.handles ++ h ∷ []) (0 ∷ []))
-next os c AllocateRun Done = goes_on os (starting c WriteRun c.bytes c.handles (0 ∷ 0 ∷ []))
-next os c WriteRun Done = writes_on os c (number c 1 + length (run_piece c))
-next os c ProtectRun Done = goes_on os (starting c AllocateStack c.bytes c.handles [])
-next os c AllocateStack Done = goes_on os (starting c WriteBlock c.bytes c.handles [])
-next os c WriteBlock Done = goes_on os (starting c CreateThread c.bytes c.handles [])
-next os c CreateThread (Handle h) = goes_on os (starting c CreateEvent c.bytes (c.handles ++ h ∷ []) [])
-next os c CreateEvent (Handle h) = goes_on os (starting c StartThread c.bytes (c.handles ++ h ∷ []) [])
-next os c StartThread Done = comes_up os c
-next os c _ _ = ends os
+abbrev pub first_thread : Cont → ThreadNote
+first_thread c = record { tid = 1; pid = 1; handle = handle c 4; event = handle c 5 }
+
+-- What a reply changes of the records: they begin where the first thread has become ready.
+abbrev pub change : Cont → Stage → Reply → Change
+change c StartThread Done = Begins (first_process c) (first_thread c) (console_descriptions c)
+change c _ _ = Same
+
+-- What a service does on a reply.
+abbrev pub next : Cont → Stage → Reply → Step
+next c SetContext Done = Asks (bare c Resume)
+next c CloseHandles Done = Asks (service_closing c (drop 1 c.handles))
+next c ReadMemory (Bytes bytes) =
+    Asks (record (bare c WriteStream) { bytes = bytes; numbers = 0 ∷ [] })
+next c ReadMemory BadAddress = Asks (service_with_result c (error EFAULT))
+next c ReadMemory NoAccess = Asks (service_with_result c (error EFAULT))
+next c WriteStream (Count n) = Asks (service_with_result c n)
+next c Configure Done = Asks (starting c OpenConsole [] [] [])
+next c OpenConsole (Handle h) = Asks (start_opening c (c.handles ++ h ∷ []))
+next c OpenProgram (Handle h) = Asks (starting c ProgramLength [] (c.handles ++ h ∷ []) [])
+next c OpenProgram _ = Stops NoProgram
+next c ProgramLength (Length size) = Asks (start_reading c size)
+next c ReadProgram (Bytes bytes) = Asks (start_with_piece c bytes)
+next c CloseProgram Done = load_step c (is_plain c.bytes)
+next c CreateProcess (Handle h) =
+    Asks (starting c AllocateRun c.bytes (c.handles ++ h ∷ []) (0 ∷ []))
+next c AllocateRun Done = Asks (starting c WriteRun c.bytes c.handles (0 ∷ 0 ∷ []))
+next c WriteRun Done = Asks (start_writing c (number c 1 + length (run_piece c)))
+next c ProtectRun Done = Asks (starting c AllocateStack c.bytes c.handles [])
+next c AllocateStack Done = Asks (starting c WriteBlock c.bytes c.handles [])
+next c WriteBlock Done = Asks (starting c CreateThread c.bytes c.handles [])
+next c CreateThread (Handle h) =
+    Asks (starting c CreateEvent c.bytes (c.handles ++ h ∷ []) [])
+next c CreateEvent (Handle h) = Asks (starting c StartThread c.bytes (c.handles ++ h ∷ []) [])
+next c StartThread Done = Stops Up
+next c _ _ = Ends
+
+-- The library OS after the reply to a stage's call.
+abbrev pub answered_at : LibOs → Cont → Stage → Reply → LibOs
+answered_at os c stage reply =
+    with_step (with_change os (change c stage reply)) (next c stage reply)
 
 abbrev pub answered_in : LibOs → Option Cont → Reply → LibOs
 answered_in os None reply = os
-answered_in os (Some c) reply = next os c c.stage reply
+answered_in os (Some c) reply = answered_at os c c.stage reply
 
 -- The library OS after the reply to its pending call.
 abbrev pub answered : LibOs → Reply → LibOs

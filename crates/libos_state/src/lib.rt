@@ -5,7 +5,9 @@
 mod cont;
 mod notes;
 mod state;
+mod step;
 
 pub use cont::{Cont, Event, Stage};
 pub use notes::{Description, DescriptorNote, Kind, ProcessNote, ProgramRefusal, ThreadNote};
 pub use state::{Boot, LibOs};
+pub use step::{Change, Step};

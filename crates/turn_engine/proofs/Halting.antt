@@ -219,6 +219,7 @@ runs_on k n m y z left now is files f = record {
   where
     one_less : suc k - 1 ≡ k
     one_less = omega arith
+
     either_files : (z.files ≡ y.files) ⊎ (z.files ≡ (turn_of now).files) → (z.files ≡ (after_turns (suc k - 1) m).files) ⊎ (z.files ≡ (after_turns (suc k) m).files)
     either_files (inl same) = inl (same ∙ files ∙ ap (λ (u : Mono). u.files) is ∙ ap (λ j. (after_turns j m).files) (sym one_less))
     either_files (inr new) = inr (new ∙ ap (λ (u : Mono). (turn_of u).files) is)

@@ -1,15 +1,14 @@
 -- Calls that change no contents.
-use Rattle.std.proofs.Common.{◌≡◌, ℕ, Bool, true, false, refl, sym, ◌∙◌}
+use Rattle.std.proofs.Common.{◌≡◌, true, false, refl, sym, ◌∙◌}
 use Rattle.std.proofs.lemmas.Bool.{false≢true}
-use Rattle.std.specs.declared.option.Option.{Option}
-use Rattle.std.specs.declared.option.Option.TheVariants.{None, Some}
+use Rattle.std.specs.declared.option.Option.TheVariants.{Some}
 use Rattle.std.proofs.Common.{ap}
 use Rattle.abi_calls.specs.declared.call.Call.{Call}
 use Rattle.abi_calls.specs.declared.call.Call.TheVariants.{StreamOpen, StreamRead, StreamWrite}
 use Rattle.abi_calls.specs.declared.reply.Reply.{Reply}
 use Rattle.abi_calls.specs.Objects.{Objects, object_at}
 use Rattle.abi_calls.specs.World.{World, Contents, Told, WhereTold, whole, world_of}
-use Rattle.abi_calls.specs.Abi.{Abi, Answers, IsTaken, is_file}
+use Rattle.abi_calls.specs.Abi.{Answers, IsTaken, is_file}
 use Rattle.abi_calls.proofs.Effects.{Effects, has-Abi}
 use Rattle.turn_engine.proofs.Telling.{whole_tells, whole_stays}
 

@@ -1,14 +1,12 @@
 -- A service, one reply after another.
-use Rattle.std.proofs.Common.{◌≡◌, ◌≢◌, ◌⊎◌, inl, inr, ℕ, refl, sym, ◌∙◌, ap, subst}
-use Rattle.std.specs.declared.option.Option.{Option}
-use Rattle.std.specs.declared.option.Option.TheVariants.{None, Some}
+use Rattle.std.proofs.Common.{◌≡◌, ◌⊎◌, inl, inr, refl, sym, ◌∙◌, ap, subst}
+use Rattle.std.specs.declared.option.Option.TheVariants.{Some}
 use Rattle.abi_calls.specs.declared.call.Call.{Call}
 use Rattle.abi_calls.specs.declared.reply.Reply.{Reply}
 use Rattle.abi_calls.specs.Objects.{Objects}
 use Rattle.abi_calls.specs.World.{Contents, Told}
 use Rattle.abi_calls.specs.Abi.{Answers}
 use Rattle.abi_calls.specs.Sound.{IsSound}
-use Rattle.libos_state.specs.declared.state.Boot.TheVariants.{Up}
 use Rattle.libos_state.specs.declared.state.LibOs.{LibOs}
 use Rattle.libos_state.specs.Pending.{pending}
 use Rattle.libos_state.specs.Meaning.{meaning}
@@ -52,8 +50,8 @@ pub stands_then : (os : LibOs) (o : Objects) (t : Told) (os' : LibOs) (o' : Obje
     → Serves os o t os' o' t' → WhereTold t' t'' (λ x y. Fronts (meaning os' (world_of o' x)) x y) → WhereTold t t'' (λ x y. Fronts (meaning os (world_of o x)) x y)
 stands_then os o t os' o' t' t'' first next =
     told_then t t' t'' (Stands os o os' o') (λ y z. Fronts (meaning os' (world_of o' y)) y z) (λ x z. Fronts (meaning os (world_of o x)) x z)
-        (λ x y z p q. fronts_then (meaning os (world_of o x)) x y z p.front (subst (λ s. Fronts s y z) p.same q))
-        (told_both t t' _ _ (Stands os o os' o') (λ x y p q. record { same = p; front = q }) first.means first.stands) next
+    (λ x y z p q. fronts_then (meaning os (world_of o x)) x y z p.front (subst (λ s. Fronts s y z) p.same q))
+    (told_both t t' _ _ (Stands os o os' o') (λ x y p q. record { same = p; front = q }) first.means first.stands) next
 
 -- one service after another
 pub serves_then : (os : LibOs) (o : Objects) (t : Told) (os' : LibOs) (o' : Objects) (t' : Told) (os'' : LibOs) (o'' : Objects) (t'' : Told)

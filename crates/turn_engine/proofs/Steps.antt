@@ -1,14 +1,13 @@
 -- One step of a service, and one turn.
-use Rattle.std.proofs.Common.{inl, ◌≡◌, ℕ, ◌==◌, ◌%◌, Bool, true, false, if◌then◌else◌, bit_and, List, [], ◌∷◌, refl, sym, ◌∙◌, ap, subst}
+use Rattle.std.proofs.Common.{inl, ◌≡◌, ℕ, ◌==◌, ◌%◌, Bool, true, false, if◌then◌else◌, bit_and, [], refl, sym, ◌∙◌, ap, subst}
 use Rattle.std.specs.FinMap.{empty}
 use Rattle.std.specs.declared.option.Option.{Option}
 use Rattle.std.specs.declared.option.Option.TheVariants.{None, Some}
 use Rattle.abi_calls.specs.declared.call.Call.{Call}
 use Rattle.abi_calls.specs.declared.reply.Reply.{Reply}
-use Rattle.abi_calls.specs.declared.threads.Turned.{Turned}
-use Rattle.abi_calls.specs.declared.threads.Turned.TheVariants.{Ran, Idle, Stuck, Exception}
+use Rattle.abi_calls.specs.declared.threads.Turned.TheVariants.{Ran, Stuck, Exception}
 use Rattle.abi_calls.specs.declared.threads.Upcall.{Upcall}
-use Rattle.abi_calls.specs.Objects.{Objects, next_position}
+use Rattle.abi_calls.specs.Objects.{Objects}
 use Rattle.abi_calls.specs.World.{World, Contents, Told}
 use Rattle.abi_calls.specs.Abi.{Answers}
 use Rattle.abi_calls.specs.Sound.{IsSound}
@@ -28,20 +27,19 @@ use Rattle.libos_state.specs.declared.notes.Description.{Description}
 use Rattle.libos_state.specs.declared.state.LibOs.{LibOs}
 use Rattle.libos_state.specs.Records.{base, description_behind}
 use Rattle.libos_state.specs.Pending.{pending}
-use Rattle.libos_state.specs.Answered.{answered, closes_on, goes_on}
-use Rattle.libos_state.specs.Entered.{entered, entered_with, call_entered, ends_process, write_entered, result_of, without_process, handles_of}
+use Rattle.libos_state.specs.Answered.{answered, goes_on}
+use Rattle.libos_state.specs.Entered.{entered, entered_with, call_entered, ends_process, write_entered, result_of}
 use Rattle.libos_state.specs.Meaning.{meaning, meant, meant_at, meant_idle}
 use Rattle.libos_state.specs.Fits.{Fits, FitsCont, FitsStage, FitsBoot, FitsUp, FitsIdle, exit_code}
 use Rattle.libos_state.specs.Laws.{KeepsMeaning, AsksTaken, EntersTurn}
 use Rattle.libos_state.proofs.Turning.{turn_ran, turn_never_stuck}
-use Rattle.libos_state.proofs.Idle.{exit_code_is}
 use Rattle.abi_calls.specs.World.{WhereTold, world_of, whole}
 use Rattle.turn_engine.specs.Serves.{Serves, IsUp, MakesTurn}
 use Rattle.turn_engine.specs.Halts.{Fronts, ServesNoTrap}
 use Rattle.turn_engine.proofs.Fronts.{fronts_now}
 use Rattle.turn_engine.proofs.Quiet.{told_taken}
 use Rattle.turn_engine.proofs.Starts.{quiet_step, going_start}
-use Rattle.turn_engine.proofs.Telling.{told_same, told_then}
+use Rattle.turn_engine.proofs.Telling.{told_same}
 use Rattle.turn_engine.proofs.Serving.{answer_means, answer_fits}
 use Rattle.turn_engine.proofs.Turns.{answer_turns}
 use Rattle.turn_engine.proofs.Boots.{boot_answered}
@@ -79,12 +77,15 @@ answer_became os os' o o' t t' call r keeps is asks taken fits sound a =
       holds = λ x e.
           let m = (answer_means os os' o o' t t' call r keeps asks fits sound a).holds x e in
           let f = (told_taken o o' t t' call r (taken.taken o fits) a).holds x e in
-          let one : (y z : Contents) → whole t' ≡ Some y → whole t' ≡ Some z → y ≡ z = same_whole (whole t') in
-          (m.0, m.1, record {
-            same = m.2;
-            files = subst (λ (c : Contents). c.files ≡ x.files) (one f.0 m.0 f.1 m.1) f.2;
-            quiet = λ start. let q = (quiet.quiet start).holds x e in subst (λ (c : Contents). c ≡ x) (one q.0 m.0 q.1 m.1) q.2;
-          });
+          let one : (y z : Contents) → whole t' ≡ Some y → whole t' ≡ Some z → y ≡ z = same_whole (whole t') in (
+            m.0,
+            m.1,
+            record {
+              same = m.2;
+              files = subst (λ (c : Contents). c.files ≡ x.files) (one f.0 m.0 f.1 m.1) f.2;
+              quiet = λ start. let q = (quiet.quiet start).holds x e in subst (λ (c : Contents). c ≡ x) (one q.0 m.0 q.1 m.1) q.2;
+            },
+          );
     }
   where
     same_whole : (w : Option Contents) (y z : Contents) → w ≡ Some y → w ≡ Some z → y ≡ z
@@ -148,12 +149,8 @@ boot_if : (b : Bool) (x y : LibOs) (n : Boot) → x.boot ≡ n → y.boot ≡ n 
 boot_if true x y n p q = p
 boot_if false x y n p q = q
 
-boot_closes : (os : LibOs) (c : Cont) (hs : List ℕ) → (closes_on os c hs).boot ≡ os.boot
-boot_closes os c [] = refl
-boot_closes os c (h ∷ hs) = refl
-
 boot_ends : (os : LibOs) (u : Upcall) (code : ℕ) → (ends_process os u code).boot ≡ os.boot
-boot_ends os u code = boot_closes (without_process os u.process code) (record (entered_with u) { numbers = code ∷ [] }) (handles_of os)
+boot_ends os u code = refl
 
 boot_write : (os : LibOs) (u : Upcall) (d : Option Description) → (write_entered os u d).boot ≡ os.boot
 boot_write os u None = refl

@@ -7,11 +7,11 @@ use Rattle.abi_calls.specs.declared.reply.Reply.{Reply}
 use Rattle.abi_calls.specs.declared.reply.Reply.TheVariants.{Done, Busy, TooBig}
 use Rattle.abi_calls.specs.declared.settings.Settings.{Settings}
 use Rattle.abi_calls.specs.Objects.{Objects, number_of}
-use Rattle.abi_calls.specs.World.{World, Told, Answer}
-use Rattle.abi_calls.specs.Abi.{Abi, Answers, answer}
+use Rattle.abi_calls.specs.World.{Told, Answer}
+use Rattle.abi_calls.specs.Abi.{Answers}
 use Rattle.abi_calls.specs.Processes.{configure_row, is_acceptable, is_running}
 use Rattle.abi_calls.proofs.PositionsKept.{is_configure}
-use Rattle.abi_calls.proofs.PositionsKept.{KeepsPositions, KeepsPositions-Answers}
+use Rattle.abi_calls.proofs.PositionsKept.{KeepsPositions-Answers}
 use Rattle.libos_state.specs.declared.cont.Cont.{Cont}
 use Rattle.libos_state.specs.declared.cont.Stage.{Stage}
 use Rattle.libos_state.specs.declared.cont.Stage.TheVariants.{SetContext, Resume, CloseHandles, ExitProcess, ReadMemory, WriteStream, Configure, OpenConsole, OpenProgram, ProgramLength, ReadProgram, CloseProgram, CreateProcess, AllocateRun, WriteRun, ProtectRun, AllocateStack, WriteBlock, CreateThread, CreateEvent, StartThread}

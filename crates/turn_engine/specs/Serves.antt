@@ -1,6 +1,6 @@
 -- What serving does: the library OS and the host stand for the same as before.
-use Rattle.std.specs.Prelude.{◌≡◌, ℕ}
-use Rattle.std.specs.declared.option.Option.TheVariants.{None, Some}
+use Rattle.std.specs.Prelude.{◌≡◌}
+use Rattle.std.specs.declared.option.Option.TheVariants.{None}
 use Rattle.abi_calls.specs.Objects.{Objects, next_position}
 use Rattle.abi_calls.specs.World.{Told}
 use Rattle.mono_model.specs.Turns.{turn_of}

@@ -3,9 +3,8 @@ use Rattle.std.specs.Prelude.{◌≡◌, ℕ, ◌+◌, ◌-◌, ◌*◌, List, l
 use Rattle.std.proofs.Common.{ap, subst, ◌∙◌, arith}
 use Rattle.mono_model.specs.Program.{page_bytes}
 use Rattle.libos_state.specs.declared.cont.Cont.{Cont}
-use Rattle.libos_state.specs.declared.state.LibOs.{LibOs}
 use Rattle.libos_state.specs.Pending.{number, run_in, run_piece}
-use Rattle.libos_state.specs.Answered.{writes_on, goes_on}
+use Rattle.libos_state.specs.Answered.{start_writing}
 use Rattle.libos_calls.proofs.Pieces.{length-run_piece}
 use Rattle.libos_calls.proofs.start_replies.piece_written.Goals as goal
 
@@ -18,4 +17,4 @@ returns c =
     let from : c.number_at-written.result ≡ number cont 1 = c.number_at-written.ensures ∙ ap (λ (xs : List ℕ). slice_index xs 1) c.as_slice-2.ensures in
     let size : c.count_of_pages-size.result * 4096 ≡ length (page_bytes cont.bytes) = c.count_of_pages-size.ensures.size ∙ ap (λ (file : List ℕ). length (page_bytes file)) c.as_slice.ensures in
     let end = piece_end _ (number cont 1) _ (length (run_in cont).bytes) _ _ (length (run_piece cont)) from size c.saturating_sub.ensures c.min-piece.ensures (length-run_piece cont) in
-    subst (λ (n : ℕ). IfOk c.written_to.result (λ next. (os : LibOs) → writes_on os cont n ≡ goes_on os next)) end c.written_to.ensures
+    subst (λ (n : ℕ). IfOk c.written_to.result (λ next. next ≡ start_writing cont n)) end c.written_to.ensures
