@@ -14,8 +14,8 @@ use Rattle.rv_asm.specs.Operands.{are_operands, are_spelled}
 use Rattle.rv_asm.specs.Statement.{is_directive, word_named, syntax_of, statement_of}
 use Rattle.rv_asm.specs.Encoding.{is_undefined, fits_values, is_big, statement_bytes, bytes_of}
 use Rattle.rv_asm.specs.Line.{◌>>=◌, uncommented, has_fault, is_twice, bytes_in, statement_in, read, line_bytes, line_end}
-use Rattle.rv_asm.specs.Program.{Place, places_in, places, outcome, outcomes_in, outcomes, definition_of, gathered, in_front, program_of}
-use Rattle.rv_asm.specs.Causes.{fits, causes_listed, label, word, operands, named, IsFirstFitting, FitsNone, IsAccused, HasCause}
+use Rattle.rv_asm.specs.Program.{Place, places_in, outcome, outcomes_in, definition_of, gathered, in_front, program_of}
+use Rattle.rv_asm.specs.Causes.{fits, causes_listed, label, word, operands, named, IsFirstFitting, FitsNone, HasCause}
 use Rattle.rv_asm.proofs.StatementLists.{given_if}
 
 -- The first of the causes that fits, or bytes.

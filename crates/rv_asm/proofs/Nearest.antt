@@ -1,9 +1,8 @@
 -- Numbers past 2^64 in size fit nowhere, so that no line's bytes and size depend on how they are held.
-use Rattle.std.proofs.Common.{◌≡◌, ◌<◌, ◌≤◌, ◌^◌, ◌-◌, ◌+◌, ◌*◌, min, ℕ, Bool, true, false, not, ◌&&◌, cond, List, [], ◌∷◌, length, map, Option, Some, None, ℤ, pos, negsuc, Result, Ok, Err, ◌⊎◌, inl, inr, refl, sym, ap, ◌∙◌, arith, rules}
+use Rattle.std.proofs.Common.{◌≡◌, ◌<◌, ◌≤◌, ◌^◌, ◌-◌, ◌+◌, ◌*◌, min, ℕ, Bool, true, false, not, ◌&&◌, cond, List, [], ◌∷◌, map, Option, Some, None, ℤ, pos, negsuc, Result, Ok, Err, ◌⊎◌, inl, inr, refl, sym, ap, ◌∙◌, arith, rules}
 use Rattle.std.specs.Int.{w64, is_negative}
 use Rattle.std.specs.Int.RustNames.{FitsSigned, unsigned_abs}
-use Rattle.std.specs.List.{list_all, flat_map}
-use Rattle.std.specs.Bool.{nat_lt}
+use Rattle.std.specs.List.{list_all}
 use Rattle.std.proofs.lemmas.Int.{ints}
 use Rattle.std.proofs.lemmas.List.{length-map}
 use Rattle.std.proofs.lemmas.Bool.{cases_lt, le-ltb, lt-ltb}
@@ -19,8 +18,8 @@ use Rattle.rv_asm.specs.declared.statement.Width.TheVariants as widths
 use Rattle.rv_asm.specs.declared.statement.Statement.{Statement}
 use Rattle.rv_asm.specs.declared.statement.Statement.TheVariants.{Plain, Upper, Branch, Jump, LoadNumber, LoadAddress, Bytes, Numbers, Zeros, Align}
 use Rattle.rv_asm.specs.Answers.{nearest_statement, nearest_said, nearest_line}
-use Rattle.rv_asm.specs.Encoding.{instr, fits_half, fits_width, fits_word, fits_values, fits_place, instructions_of, data_of, is_undefined, is_big, is_short, count_of, padding, limit, statement_size, width_size, bytes_of, address_behind, farthest}
-use Rattle.rv_asm.specs.Line.{is_twice, size_of, line_end, line_bytes, bytes_in}
+use Rattle.rv_asm.specs.Encoding.{instr, fits_half, fits_width, fits_word, fits_values, instructions_of, is_undefined, is_big, is_short, count_of, padding, limit, statement_size, width_size, bytes_of, address_behind, farthest}
+use Rattle.rv_asm.specs.Line.{is_twice, size_of, line_end, line_bytes}
 use Rattle.rv_asm.proofs.Ranges.{encoded-far}
 
 -- A number is its nearest one, or both are past 2^64 in size.

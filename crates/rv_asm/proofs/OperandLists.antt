@@ -1,5 +1,5 @@
 -- Operands in a row, read from the first one on.
-use Rattle.std.proofs.Common.{◌≡◌, ℕ, suc, ◌+◌, ◌<◌, ◌≤◌, Bool, true, false, ◌&&◌, cond, if◌then◌else◌, List, [], ◌∷◌, ◌++◌, length, drop, get_or, map, Option, Some, None, option_map, ℤ, Result, Ok, Err, refl, sym, ap, ◌∙◌, append_assoc, subst}
+use Rattle.std.proofs.Common.{◌≡◌, ℕ, suc, ◌+◌, ◌<◌, ◌≤◌, Bool, true, false, ◌&&◌, cond, if◌then◌else◌, List, [], ◌∷◌, ◌++◌, length, drop, get_or, map, Option, Some, None, option_map, ℤ, Result, Ok, Err, refl, sym, ap, ◌∙◌, append_assoc}
 use Rattle.std.specs.Option.{ok_or}
 use Rattle.std.specs.List.{list_all}
 use Rattle.std.proofs.Math.Bool.{and-false}
@@ -11,7 +11,7 @@ use Rattle.rv_asm.specs.declared.AsmCause.{AsmCause}
 use Rattle.rv_asm.specs.declared.AsmCause.TheVariants as causes
 use Rattle.rv_asm.specs.declared.operands.Kind.{Kind}
 use Rattle.rv_asm.specs.declared.operands.Fields.{Fields}
-use Rattle.rv_asm.specs.Operands.{is_of, with_operand, no_fields, are_of, fields_behind, fields_of, is_spelled, value_of}
+use Rattle.rv_asm.specs.Operands.{is_of, with_operand, no_fields, are_of, fields_behind, fields_of, is_spelled}
 use Rattle.rv_asm.specs.Answers.{nearest_value}
 
 -- What operands give behind those that gave f.

@@ -1,5 +1,5 @@
 -- Numbers that fit no field of an instruction.
-use Rattle.std.proofs.Common.{◌≡◌, ◌<◌, ◌≤◌, ◌^◌, ◌≤ℤ◌, ℕ, Bool, true, false, ◌&&◌, cond, Option, Some, None, ℤ, pos, negsuc, min, refl, ap, sym, subst, ◌∙◌, arith}
+use Rattle.std.proofs.Common.{◌≡◌, ◌≤◌, ◌^◌, ◌≤ℤ◌, ℕ, Bool, false, ◌&&◌, cond, Some, None, ℤ, pos, negsuc, refl, sym, subst, arith}
 use Rattle.std.specs.Int.{w64, w128}
 use Rattle.std.proofs.lemmas.Int.{ints, to_z-of_z}
 use mir.Val.{to_z, of_z}

@@ -1,5 +1,5 @@
 -- The statement that operands give, or the cause for which they are refused.
-use Rattle.std.proofs.Common.{◌≡◌, Bool, true, false, not, cond, ℕ, ◌==◌, List, [], length, ◌∷◌, map, ℤ, Option, Some, None, ◌⊎◌, inl, inr, Result, Ok, Err, refl, sym, ap, ◌∙◌, subst}
+use Rattle.std.proofs.Common.{◌≡◌, Bool, true, false, not, cond, ℕ, ◌==◌, List, [], length, ◌∷◌, map, ℤ, Option, Some, None, ◌⊎◌, inl, inr, Result, Ok, Err, refl, sym, ap, ◌∙◌}
 use Rattle.std.specs.Option.{ok_or}
 use Rattle.std.specs.Int.{w128}
 use mir.Val.{to_z, of_z}

@@ -1,14 +1,13 @@
 -- The words of two instructions, of which either may be refused.
-use Rattle.std.proofs.Common.{◌≡◌, ℕ, Bool, true, false, ◌&&◌, List, [], ◌∷◌, map, Option, Some, None, Result, Ok, Err, refl, sym, ap, ◌∙◌}
+use Rattle.std.proofs.Common.{◌≡◌, ℕ, true, false, [], ◌∷◌, Option, Some, None, Result, Ok, Err, refl, ap, ◌∙◌}
 use Rattle.std.specs.Option.{ok_or}
 use Rattle.std.specs.List.{list_all}
-use Rattle.std.specs.Result.{IsErrAnd}
 use Rattle.rv_core.specs.declared.instr.Instr.{Instr}
 use Rattle.rv_core.specs.Encoding.{encoded}
 use Rattle.rv_asm.specs.declared.AsmCause.{AsmCause}
 use Rattle.rv_asm.specs.declared.AsmCause.TheVariants as causes
 use Rattle.rv_asm.specs.declared.encoding.Words.{Words}
-use Rattle.rv_asm.specs.declared.encoding.Words.TheVariants.{One, Two}
+use Rattle.rv_asm.specs.declared.encoding.Words.TheVariants.{Two}
 use Rattle.rv_asm.specs.Encoding.{fits_word, word_of}
 use Rattle.rv_asm.specs.Words.{HasWords}
 

@@ -1,6 +1,6 @@
 -- What the program's own functions answer: what is wanted or a refusal, where memory may run out, and numbers as its
 -- types hold them. No answer of the assembler depends on how they are held.
-use Rattle.std.specs.Prelude.{◌≡◌, ℕ, List, map, Option, Some, None, option_map, ℤ, Result, Ok, Err}
+use Rattle.std.specs.Prelude.{◌≡◌, ℕ, List, map, Option, option_map, ℤ, Result, Ok, Err}
 use Rattle.asm_text.specs.Numbers.{nearest}
 use Rattle.rv_asm.specs.declared.AsmCause.{AsmCause}
 use Rattle.rv_asm.specs.declared.AsmError.{AsmError}

@@ -1,5 +1,5 @@
 -- The bytes of a statement at an address, under the labels of the text.
-use Rattle.std.specs.Prelude.{◌≡◌, IsOk, ℕ, ◌+◌, ◌-◌, ◌*◌, ◌%◌, ◌^◌, min, Bool, true, false, not, ◌&&◌, if◌then◌else◌, nat_lt, List, [], ◌∷◌, ◌++◌, length, take, map, replicate, Option, Some, None, is_some, is_none, unwrap_or, ℤ, pos, negsuc, ◌-ℤ◌, ◌*ℤ◌, int_lt, Result, Ok, Err}
+use Rattle.std.specs.Prelude.{ℕ, ◌+◌, ◌-◌, ◌*◌, ◌%◌, ◌^◌, min, Bool, true, false, not, ◌&&◌, if◌then◌else◌, nat_lt, List, [], ◌∷◌, ◌++◌, length, take, map, replicate, Option, is_some, is_none, unwrap_or, ℤ, pos, negsuc, ◌-ℤ◌, ◌*ℤ◌, int_lt, Result, Ok, Err}
 use Rattle.std.specs.Option.{option_map_or}
 use Rattle.std.specs.List.{list_all, flat_map}
 use Rattle.std.specs.Int.{to_le_bytes, cast_unsigned, int_rem_euclid, is_negative, w32, w128}

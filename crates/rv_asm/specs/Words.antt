@@ -1,5 +1,5 @@
 -- What the program's functions that write bytes answer.
-use Rattle.std.specs.Prelude.{◌≡◌, IsOk, Bool, true, false, if◌then◌else◌, ℕ, List, [], ◌∷◌, ◌++◌, map, Option, Some, None, Result, Ok, Err}
+use Rattle.std.specs.Prelude.{◌≡◌, Bool, true, false, if◌then◌else◌, ℕ, List, [], ◌∷◌, ◌++◌, map, Option, Some, None, Result, Ok, Err}
 use Rattle.rv_core.specs.declared.instr.Instr.{Instr}
 use Rattle.rv_asm.specs.declared.AsmCause.{AsmCause}
 use Rattle.rv_asm.specs.declared.AsmCause.TheVariants as causes

@@ -1,4 +1,4 @@
-use Rattle.std.proofs.Common.{◌≡◌, ◌∙◌, Err, Result, Option, sym, subst, false, rules}
+use Rattle.std.proofs.Common.{◌≡◌, ◌∙◌, Err, Result, Option, sym, subst, rules}
 use Rattle.rv_asm.specs.declared.AsmCause.{AsmCause}
 use Rattle.rv_asm.specs.declared.refusal.LineError.{LineError}
 use Rattle.rv_asm.specs.declared.statement.Statement.{Statement}

@@ -1,5 +1,4 @@
 use Rattle.std.proofs.Common.{◌≡◌, ◌<◌, ◌≤◌, ◌∙◌, refl, sym, ap, length, arith, rules, Err}
-use Rattle.rv_asm.specs.Operands.{no_fields}
 use Rattle.rv_asm.proofs.OperandLists.{given, given-fields_of, given-more, given-refused, given-end, refused-lengths}
 use Rattle.rv_asm.proofs.operands.fields_of.Goals as goal
 

@@ -1,6 +1,4 @@
-use Rattle.std.proofs.Common.{◌≡◌, ◌∙◌, ap, sym, subst, Err, Ok, Result, List, ℕ, rules}
-use Rattle.rv_asm.specs.declared.AsmCause.{AsmCause}
-use Rattle.rv_asm.specs.declared.refusal.LineError.{LineError}
+use Rattle.std.proofs.Common.{◌≡◌, ◌∙◌, ap, sym, subst, Err, rules}
 use Rattle.rv_asm.specs.Labels.{defined}
 use Rattle.rv_asm.specs.Words.{HasAppended, HasPlaced}
 use Rattle.rv_asm.specs.Line.{read, line_end, line_bytes}

@@ -1,4 +1,4 @@
-use Rattle.std.proofs.Common.{◌≡◌, ◌∙◌, sym, ap, subst}
+use Rattle.std.proofs.Common.{◌∙◌, ap}
 use Rattle.rv_asm.specs.Line.{read, line_end}
 use Rattle.rv_asm.proofs.Nearest.{line_end-nearest}
 use Rattle.rv_asm.proofs.program.define_line.Goals as goal

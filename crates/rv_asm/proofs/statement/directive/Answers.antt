@@ -1,7 +1,5 @@
-use Rattle.std.proofs.Common.{◌≡◌, ◌∙◌, sym, ap, Ok, Result, List, map, ℤ}
-use Rattle.rv_asm.specs.declared.AsmCause.{AsmCause}
+use Rattle.std.proofs.Common.{◌∙◌, ap}
 use Rattle.rv_asm.specs.declared.statement.Width.TheVariants as widths
-use Rattle.rv_asm.specs.declared.statement.Statement.{Statement}
 use Rattle.rv_asm.specs.Operands.{unless_refused}
 use Rattle.rv_asm.specs.Answers.{nearest_statement}
 use Rattle.rv_asm.specs.Statement.{directive_syntax, directive_by}
