@@ -1,20 +1,21 @@
 -- The definitions computed on a few texts.
-use Rattle.std.proofs.Common.{◌≡◌, List, ℕ, [], ◌∷◌, ◌++◌, Option, Some, None, Ok, Err, ℤ, pos, negsuc, refl}
+use Rattle.std.proofs.Common.{◌≡◌, [], ◌∷◌, ◌++◌, Some, None, Ok, Err, pos, negsuc, refl}
 use Rattle.std.specs.Prelude.{codes}
 use Rattle.std.specs.Str.{is_utf8, chars}
 use lib.Utf8 as utf8
 use Rattle.rv_core.specs.Encoding.{encoded}
 use Rattle.rv_asm.specs.declared.AsmCause.TheVariants as causes
 use Rattle.rv_asm.specs.declared.AsmError.TheVariants.{Line}
-use Rattle.rv_asm.specs.Text.{quoted}
-use Rattle.rv_asm.specs.Numbers.{number_of}
-use Rattle.rv_asm.specs.Registers.{register_of}
+use Rattle.asm_text.specs.Text.{quoted}
+use Rattle.asm_text.specs.Numbers.{number_of}
+use Rattle.asm_text.specs.Registers.{register_of}
 use Rattle.rv_asm.specs.Mnemonics.{op_named, pseudo_named, directive_named}
-use Rattle.rv_asm.specs.Operands.{address}
-use Rattle.rv_asm.specs.Statement.{on_registers, on_immediate, upper, load, store, branch, jump, alone, instruction, load_number, load_address, copy, linked_jump, zeros, align, ascii, statement_of}
-use Rattle.rv_asm.specs.Encoding.{words_of, data_of, bytes_of}
+use Rattle.rv_asm.specs.Operands.{base, fields_of}
+use Rattle.rv_asm.specs.Statement.{word_named}
+use Rattle.rv_asm.specs.Encoding.{low_part, high_part, page_immediate, instructions_of, data_of, bytes_of}
+use Rattle.asm_text.specs.Text.{before, behind}
 use Rattle.rv_asm.specs.Line.{uncommented, label_text, statement_text, first_word, operand_texts, has_fault, label_of, statement_in, read, line_bytes}
-use Rattle.rv_asm.specs.Program.{definition_in, outcomes_in, gathered, program_of}
+use Rattle.rv_asm.specs.Program.{definition_in, places_in, gathered, program_of}
 
 hexadecimal : number_of (codes "0x01F") ≡ Some (pos 31)
 hexadecimal = refl
@@ -39,7 +40,7 @@ text = refl
 
 -- what computes on a text that is written out
 unfoldable computed : Unit {0}
-unfolding is_utf8 chars utf8.encode encoded register_of op_named pseudo_named directive_named address on_registers on_immediate upper load store branch jump alone instruction load_number load_address copy linked_jump zeros align ascii statement_of words_of data_of bytes_of uncommented label_text statement_text first_word operand_texts has_fault label_of statement_in read line_bytes definition_in outcomes_in gathered program_of
+unfolding is_utf8 chars utf8.encode encoded register_of op_named pseudo_named directive_named word_named base fields_of low_part high_part page_immediate instructions_of data_of bytes_of before behind uncommented label_text statement_text first_word operand_texts has_fault label_of statement_in read line_bytes definition_in places_in gathered program_of
 computed = tt
 
 store_double : program_of (codes "sd a0, 8(sp)") ≡ Ok (0x23 ∷ 0x34 ∷ 0xa1 ∷ 0x00 ∷ [])
@@ -69,3 +70,7 @@ first_refused = refl
 label_of_a_refused_line : program_of (codes "j m" ++ 10 ∷ codes "m: foo") ≡ Err (Line 2 causes.Mnemonic)
 unfolding computed
 label_of_a_refused_line = refl
+
+operand_before_number : program_of (codes ".byte 1x, foo") ≡ Err (Line 1 causes.Operand)
+unfolding computed
+operand_before_number = refl

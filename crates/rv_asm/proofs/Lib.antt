@@ -1,10 +1,12 @@
+pub mod CauseLists
 mod Examples
 pub mod LabelLists
-pub mod LineLists
-pub mod NumberLists
+pub mod Nearest
 pub mod OperandLists
 pub mod ProgramLists
-pub mod RegisterLists
+pub mod Ranges
+pub mod Refusals
 pub mod Sizes
-pub mod TextLists
+pub mod StatementLists
 pub mod Utf8
+pub mod WordLists

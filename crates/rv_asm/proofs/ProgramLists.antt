@@ -1,6 +1,6 @@
 -- The labels and the bytes of the lines of a text, one line after another.
 use denote.Ref.{Bor}
-use Rattle.rv_asm.proofs.TextLists.{bytes_left}
+use Rattle.asm_text.proofs.TextLists.{bytes_left}
 use Rattle.std.proofs.Common.{◌≡◌, ◌≢◌, MatchOption, ◌<◌, ◌≤◌, ℕ, ◌+◌, List, [], ◌∷◌, ◌++◌, Option, Some, None, Result, Ok, Err, refl, sym, ap, ◌∙◌, append_assoc, suc, length, subst, arith, IsOk}
 use Rattle.std.specs.List.{flat_map, AllByRecursion}
 use Rattle.std.proofs.Math.Path.{fun_ext}
@@ -8,13 +8,17 @@ use Rattle.std.proofs.lemmas.List.{append-nil}
 use Rattle.rv_asm.specs.declared.AsmCause.{AsmCause}
 use Rattle.rv_asm.specs.declared.AsmError.{AsmError}
 use Rattle.rv_asm.specs.declared.AsmError.TheVariants as errors
+use Rattle.rv_asm.specs.declared.refusal.LineError.{LineError}
+use Rattle.rv_asm.specs.declared.refusal.LineError.TheVariants.{Refused, Memory}
 use Rattle.rv_asm.specs.declared.labels.Definition.{Definition}
+use Rattle.rv_asm.specs.Answers.{error_at}
+use Rattle.rv_asm.specs.Words.{HasAppended, HasPlaced}
 use Rattle.rv_asm.specs.Labels.{otherwise, own_definition}
 use Rattle.rv_asm.specs.Line.{read, line_end, line_bytes}
-use Rattle.rv_asm.specs.Text.{lines}
-use Rattle.rv_asm.specs.Encoding.{base, HasPlaced}
+use Rattle.asm_text.specs.Text.{lines}
+use Rattle.rv_asm.specs.Encoding.{base}
 use Rattle.rv_asm.specs.File.{file_of}
-use Rattle.rv_asm.specs.Program.{definition_in, definition_of, outcomes_in, outcomes, gathered, in_front, program_of, filed, assembled, bytes_or_none, IsFirstRefused, IsFileOf, Tells, Follows}
+use Rattle.rv_asm.specs.Program.{definition_in, definition_of, places_in, outcomes_in, outcomes, gathered, in_front, program_of, filed, assembled, bytes_or_none, IsFirstRefused, IsFileOf, Tells, Follows}
 use Rattle.rv_asm.proofs.LabelLists.{otherwise-none, otherwise-assoc}
 
 -- A line adds its own definition of a label, unless there is an earlier one.
@@ -46,7 +50,7 @@ pub gathered-line : (find : List ℕ → Option Definition) (number at : ℕ) (l
     → line_bytes find number at (read line) ≡ Ok bytes → new ≡ front ++ bytes
     → in_front front (gathered number (outcomes_in find number at (line ∷ lines)))
     ≡ in_front new (gathered (number + 1) (outcomes_in find (number + 1) (line_end at (read line)) lines))
-unfolding outcomes_in gathered
+unfolding places_in gathered
 gathered-line find number at line lines front new bytes taken appended =
     let rest = outcomes_in find (number + 1) (line_end at (read line)) lines in
     ap (λ o. in_front front (gathered number (o ∷ rest))) taken
@@ -55,13 +59,13 @@ gathered-line find number at line lines front new bytes taken appended =
 pub gathered-refused : (find : List ℕ → Option Definition) (number at : ℕ) (line : List ℕ) (lines : List (List ℕ)) (front : List ℕ) (cause : AsmCause)
     → line_bytes find number at (read line) ≡ Err cause
     → in_front front (gathered number (outcomes_in find number at (line ∷ lines))) ≡ Err (errors.Line number cause)
-unfolding outcomes_in gathered
+unfolding places_in gathered
 gathered-refused find number at line lines front cause refused =
     ap (λ o. in_front front (gathered number (o ∷ outcomes_in find (number + 1) (line_end at (read line)) lines))) refused
 
 pub gathered-end : (find : List ℕ → Option Definition) (number at : ℕ) (front : List ℕ)
     → in_front front (gathered number (outcomes_in find number at [])) ≡ Ok front
-unfolding outcomes_in gathered
+unfolding places_in gathered
 gathered-end find number at front = ap Ok (append-nil front)
 
 -- What is gathered says of the lines from the one with that number on.
@@ -119,17 +123,19 @@ pub assembled-filed : (text : List ℕ) (r : Result (List ℕ) AsmError) → pro
 unfolding assembled
 assembled-filed text r done = ap filed done
 
--- What an answer tells of the line.
-pub placed-ok : (o : Result (List ℕ) AsmCause) (next n : ℕ) (old new : List ℕ) → HasPlaced o next old new (Ok n)
-    → (n ≡ next) × ((bytes : List ℕ) × ((o ≡ Ok bytes) × (new ≡ old ++ bytes)))
-placed-ok (Ok bytes) next n old new h = (cc, (bytes, (refl, h.1)))
-placed-ok (Err cause) next n old new h = cc
+-- What is answered in place of bytes.
+pub HasPlaced-error : (wanted : Result (List ℕ) AsmCause) (next : ℕ) (old new : List ℕ) (error : LineError)
+    → HasAppended wanted old new (Err error) → HasPlaced wanted next old new (Err error)
+HasPlaced-error wanted next old new (Refused cause) h = h
+HasPlaced-error wanted next old new Memory h = tt
 
-pub placed-err : (o : Result (List ℕ) AsmCause) (next : ℕ) (old new : List ℕ) (cause : AsmCause)
-    → HasPlaced o next old new (Err cause) → o ≡ Err cause
-placed-err (Ok bytes) next old new cause h = cc
-placed-err (Err other) next old new cause h =
-    let same : other ≡ cause = cc in ap Err same
+pub gathered-error : (find : List ℕ → Option Definition) (number at : ℕ) (line : List ℕ) (lines : List (List ℕ)) (front new : List ℕ)
+    (next : ℕ) (error : LineError) (e : AsmError) → e ≡ error_at number error
+    → HasPlaced (line_bytes find number at (read line)) next front new (Err error) → (e ≢ errors.Memory)
+    → in_front front (gathered number (outcomes_in find number at (line ∷ lines))) ≡ Err e
+gathered-error find number at line lines front new next (Refused cause) e is placed told =
+    gathered-refused find number at line lines front cause placed ∙ ap Err (sym is)
+gathered-error find number at line lines front new next Memory e is placed told = absurd (told is)
 
 -- Behind a line there are fewer bytes.
 pub counted-more : (number all here : ℕ) (more : Option (Bor (List ℕ))) (P : Type 0) → number + suc here ≤ all + 2

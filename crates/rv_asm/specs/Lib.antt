@@ -1,11 +1,11 @@
+pub mod Answers
+pub mod Causes
 pub mod Encoding
 pub mod File
 pub mod Labels
 pub mod Line
 pub mod Mnemonics
-pub mod Numbers
 pub mod Operands
 pub mod Program
-pub mod Registers
 pub mod Statement
-pub mod Text
+pub mod Words

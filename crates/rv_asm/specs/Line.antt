@@ -1,46 +1,38 @@
--- A line of the text: its label and its statement.
-use Rattle.std.specs.Prelude.{ℕ, ◌+◌, ◌==◌, Bool, false, not, ◌&&◌, ◌||◌, if◌then◌else◌, nat_lt, List, [], ◌∷◌, length, take, drop, Option, Some, None, is_some, Result, Ok, Err}
-use Rattle.std.specs.Option.{option_map_or, option_and_then}
+-- A line of the text: its label, its statement and its bytes.
+use Rattle.std.specs.Prelude.{ℕ, ◌==◌, Bool, false, not, ◌&&◌, ◌||◌, if◌then◌else◌, nat_lt, List, [], ◌∷◌, length, Option, Some, None, is_some, option_map, unwrap_or, Result, Ok, Err}
+use Rattle.std.specs.Option.{ok_or, option_map_or, option_and_then}
 use Rattle.std.specs.List.{list_any}
 use Rattle.std.specs.Str.{is_utf8}
 use Rattle.rv_asm.specs.declared.AsmCause.{AsmCause}
 use Rattle.rv_asm.specs.declared.AsmCause.TheVariants as causes
-use Rattle.rv_asm.specs.declared.text.Quoting.TheVariants.{Outside}
 use Rattle.rv_asm.specs.declared.statement.Statement.{Statement}
 use Rattle.rv_asm.specs.declared.labels.Definition.{Definition}
 use Rattle.rv_asm.specs.declared.line.Line.{Line}
-use Rattle.rv_asm.specs.Text.{length_before, is_closed, trim_start, trim, is_name, operands, quoted}
-use Rattle.rv_asm.specs.Operands.{◌>>=◌}
-use Rattle.rv_asm.specs.Statement.{statement_of}
-use Rattle.rv_asm.specs.Encoding.{behind, statement_size, bytes_of}
+use Rattle.asm_text.specs.Text.{before, behind, is_closed, trim_start, trim, is_name, operands, quoted}
+use Rattle.rv_asm.specs.Operands.{unless_refused}
+use Rattle.rv_asm.specs.Statement.{word_named, unknown, syntax_of, statement_of}
+use Rattle.rv_asm.specs.Encoding.{address_behind, statement_size, bytes_of}
 
 -- The parts of a line
 
 -- The line without its comment, which begins at the first `#` outside quotes.
 unfoldable pub uncommented : List ℕ → List ℕ
-uncommented line = take (length_before (35 ∷ []) Outside line) line
+uncommented line = before (35 ∷ []) line
 
--- The place of the first `:` outside quotes, or the end.
-abbrev pub colon : List ℕ → ℕ
-colon text = length_before (58 ∷ []) Outside text
-
--- What stands before that `:`, if there is one. No blank stands between the label and its `:`.
+-- What stands before the first `:` outside quotes, if there is one. No blank stands between the label and its `:`.
 unfoldable pub label_text : List ℕ → Option (List ℕ)
-label_text text = if nat_lt (colon text) (length text) then Some (trim_start (take (colon text) text)) else None
+label_text text = option_map (λ rest. trim_start (before (58 ∷ []) text)) (behind (58 ∷ []) text)
 
--- What stands behind it.
+-- What stands behind it, or all.
 unfoldable pub statement_text : List ℕ → List ℕ
-statement_text text = trim (if nat_lt (colon text) (length text) then drop (colon text + 1) text else text)
+statement_text text = trim (unwrap_or (behind (58 ∷ []) text) text)
 
--- The place behind the first word of a statement: at the first blank outside quotes.
-abbrev pub word_end : List ℕ → ℕ
-word_end statement = length_before (32 ∷ 9 ∷ []) Outside statement
-
+-- The first word of a statement ends at the first blank outside quotes.
 unfoldable pub first_word : List ℕ → List ℕ
-first_word statement = take (word_end statement) statement
+first_word statement = before (32 ∷ 9 ∷ []) statement
 
 unfoldable pub operand_texts : List ℕ → List (List ℕ)
-operand_texts statement = operands (trim (drop (word_end statement) statement))
+operand_texts statement = operands (trim (unwrap_or (behind (32 ∷ 9 ∷ []) statement) []))
 
 -- The text's own faults
 
@@ -56,14 +48,22 @@ has_fault text operands =
 
 -- What a line says
 
+-- What is read by one step and then by others: the first cause counts.
+infixl 10 ◌>>=◌
+abbrev pub ◌>>=◌ : {A B : Type 0} → Result A AsmCause → (A → Result B AsmCause) → Result B AsmCause
+Ok a >>= next = next a
+Err cause >>= next = Err cause
+
 -- A label is a name, whatever else the line holds.
 unfoldable pub label_of : Option (List ℕ) → Option (List ℕ)
 label_of text = option_and_then (λ name. if is_name name then Some name else None) text
 
--- No statement where there is no word.
+-- The statement of a word and its operands, or the first cause for which they are refused by themselves. Without a
+-- word there is none.
 unfoldable pub statement_in : List ℕ → List (List ℕ) → Result (Option Statement) AsmCause
 statement_in word operands =
-    if length word == 0 then Ok None else (statement_of word operands >>= (λ statement. Ok (Some statement)))
+    if length word == 0 then Ok None else
+    (ok_or (word_named word) (unknown word) >>= (λ named. unless_refused (syntax_of named) operands (Some (statement_of named operands))))
 
 -- A line, without its comment, whose bytes are UTF-8 or not.
 abbrev pub read_text : Bool → List ℕ → Line
@@ -88,15 +88,12 @@ size_of at (Err cause) = 0
 
 -- The address behind a line.
 abbrev pub line_end : ℕ → Line → ℕ
-line_end at line = behind at (size_of at line.statement)
+line_end at line = address_behind at (size_of at line.statement)
 
 -- An earlier line defines the label.
 abbrev pub is_twice : (List ℕ → Option Definition) → ℕ → Option (List ℕ) → Bool
 is_twice find number label =
     option_map_or (λ name. option_map_or (λ d. nat_lt d.line number) (find name) false) label false
-
-abbrev pub unless : Bool → AsmCause → Result (List ℕ) AsmCause → Result (List ℕ) AsmCause
-unless wrong cause other = if wrong then Err cause else other
 
 -- The bytes of what is no statement.
 abbrev pub bytes_in : (List ℕ → Option Definition) → ℕ → Option Statement → Result (List ℕ) AsmCause
@@ -107,4 +104,5 @@ bytes_in find at None = Ok []
 -- wrong with the line by itself, then a label that an earlier line defines, then what its statement gives.
 unfoldable pub line_bytes : (List ℕ → Option Definition) → ℕ → ℕ → Line → Result (List ℕ) AsmCause
 line_bytes find number at line =
-    line.statement >>= (λ statement. unless (is_twice find number line.label) causes.Twice (bytes_in find at statement))
+    line.statement >>= (λ statement.
+    if is_twice find number line.label then Err causes.Twice else bytes_in find at statement)

@@ -1,11 +1,11 @@
 -- A whole text: the addresses of its lines, its labels, its bytes and the first line that is refused.
-use Rattle.std.specs.Prelude.{◌≡◌, ℕ, ◌+◌, List, [], ◌∷◌, ◌++◌, length, Option, None, Result, Ok, Err, IsOk}
+use Rattle.std.specs.Prelude.{◌≡◌, ℕ, ◌+◌, List, [], ◌∷◌, ◌++◌, length, map, Option, None, Result, Ok, Err, IsOk}
 use Rattle.std.specs.List.{flat_map, AllByRecursion}
 use Rattle.rv_asm.specs.declared.AsmCause.{AsmCause}
 use Rattle.rv_asm.specs.declared.AsmError.{AsmError}
 use Rattle.rv_asm.specs.declared.AsmError.TheVariants as errors
 use Rattle.rv_asm.specs.declared.labels.Definition.{Definition}
-use Rattle.rv_asm.specs.Text.{lines}
+use Rattle.asm_text.specs.Text.{lines}
 use Rattle.rv_asm.specs.Labels.{otherwise, own_definition}
 use Rattle.rv_asm.specs.Encoding.{base}
 use Rattle.rv_asm.specs.Line.{read, line_end, line_bytes}
@@ -22,11 +22,28 @@ definition_in number at (line ∷ lines) name =
 abbrev pub definition_of : List ℕ → List ℕ → Option Definition
 definition_of text name = definition_in 1 base (lines text) name
 
--- What comes of each of the lines: its bytes, or the first cause for which it is refused.
-unfoldable pub outcomes_in : (List ℕ → Option Definition) → ℕ → ℕ → List (List ℕ) → List (Result (List ℕ) AsmCause)
-outcomes_in find number at [] = []
-outcomes_in find number at (line ∷ lines) =
-    line_bytes find number at (read line) ∷ outcomes_in find (number + 1) (line_end at (read line)) lines
+-- A line, its number and its address.
+pub record Place : Type 0 where
+  pub number : ℕ
+  pub address : ℕ
+  pub line : List ℕ
+
+-- The lines in their places. The first has that number and that address.
+unfoldable pub places_in : ℕ → ℕ → List (List ℕ) → List Place
+places_in number at [] = []
+places_in number at (line ∷ lines) =
+    record { number = number; address = at; line = line } ∷ places_in (number + 1) (line_end at (read line)) lines
+
+-- The lines of a text, the first of which is number 1.
+abbrev pub places : List ℕ → List Place
+places text = places_in 1 base (lines text)
+
+-- What comes of a line: its bytes, or the first cause for which it is refused.
+abbrev pub outcome : (List ℕ → Option Definition) → Place → Result (List ℕ) AsmCause
+outcome find p = line_bytes find p.number p.address (read p.line)
+
+abbrev pub outcomes_in : (List ℕ → Option Definition) → ℕ → ℕ → List (List ℕ) → List (Result (List ℕ) AsmCause)
+outcomes_in find number at lines = map (outcome find) (places_in number at lines)
 
 -- What comes of each line of the text.
 abbrev pub outcomes : List ℕ → List (Result (List ℕ) AsmCause)

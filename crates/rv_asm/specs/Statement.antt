@@ -1,11 +1,10 @@
 -- Statements: what a line puts into the program, by its first word and its operands.
-use Rattle.std.specs.Prelude.{ℕ, ◌==◌, if◌then◌else◌, List, [], ◌∷◌, length, Option, Some, None, ℤ, pos, Result, Ok, Err}
-use Rattle.std.specs.Option.{ok_or}
+use Rattle.std.specs.Prelude.{ℕ, Bool, if◌then◌else◌, List, [], ◌∷◌, map, Option, option_map, ℤ, pos}
+use Rattle.std.specs.Option.{option_or}
 use Rattle.std.specs.List.{starts_with}
 use Rattle.std.specs.Bool.{nat_eq}
 use Rattle.rv_core.specs.declared.instr.Op.{Op}
 use Rattle.rv_core.specs.declared.instr.Op.TheVariants as op
-use Rattle.rv_core.specs.declared.instr.Instr.{Instr}
 use Rattle.rv_asm.specs.declared.AsmCause.{AsmCause}
 use Rattle.rv_asm.specs.declared.AsmCause.TheVariants as causes
 use Rattle.rv_asm.specs.declared.mnemonics.Shape.{Shape}
@@ -14,145 +13,106 @@ use Rattle.rv_asm.specs.declared.mnemonics.Pseudo.{Pseudo}
 use Rattle.rv_asm.specs.declared.mnemonics.Pseudo.TheVariants as pseudos
 use Rattle.rv_asm.specs.declared.mnemonics.Directive.{Directive}
 use Rattle.rv_asm.specs.declared.mnemonics.Directive.TheVariants as directives
-use Rattle.rv_asm.specs.declared.statement.Width.{Width}
+use Rattle.rv_asm.specs.declared.operands.Kind.{Kind}
+use Rattle.rv_asm.specs.declared.operands.Kind.TheVariants.{Rd, Rs1, Rs2, Number, Address, Label}
+use Rattle.rv_asm.specs.declared.operands.Fields.{Fields}
 use Rattle.rv_asm.specs.declared.statement.Width.TheVariants as widths
+use Rattle.rv_asm.specs.declared.statement.Word.{Word}
+use Rattle.rv_asm.specs.declared.statement.Word.TheVariants as words
 use Rattle.rv_asm.specs.declared.statement.Statement.{Statement}
 use Rattle.rv_asm.specs.declared.statement.Statement.TheVariants.{Plain, Upper, Branch, Jump, LoadNumber, LoadAddress, Bytes, Numbers, Zeros, Align}
-use Rattle.rv_asm.specs.Text.{quoted}
-use Rattle.rv_asm.specs.Operands.{◌>>=◌, register, number, address, name, immediate, numbers}
+use Rattle.rv_asm.specs.Operands.{Syntax, Each, Quoted, fields_of, value_of, bytes_in}
+use Rattle.rv_asm.specs.Operands as operands
 use Rattle.rv_asm.specs.Mnemonics.{op_named, shape_of, pseudo_named, directive_named}
 
--- A statement with so many operands.
-abbrev pub with_one : (List ℕ → Result Statement AsmCause) → List (List ℕ) → Result Statement AsmCause
-with_one read (a ∷ []) = read a
-with_one read _ = Err causes.Operand
+-- Words
 
-abbrev pub with_two : (List ℕ → List ℕ → Result Statement AsmCause) → List (List ℕ) → Result Statement AsmCause
-with_two read (a ∷ b ∷ []) = read a b
-with_two read _ = Err causes.Operand
+-- Directives begin with a point.
+abbrev pub is_directive : List ℕ → Bool
+is_directive word = starts_with nat_eq word (46 ∷ [])
 
-abbrev pub with_three : (List ℕ → List ℕ → List ℕ → Result Statement AsmCause) → List (List ℕ) → Result Statement AsmCause
-with_three read (a ∷ b ∷ c ∷ []) = read a b c
-with_three read _ = Err causes.Operand
+-- What a first word names, if it names something.
+unfoldable pub word_named : List ℕ → Option Word
+word_named word =
+    if is_directive word then option_map (λ d. words.Directive d) (directive_named word)
+    else option_or (option_map (λ o. words.Instruction o) (op_named word)) (option_map (λ p. words.Pseudo p) (pseudo_named word))
 
-abbrev pub plain : Op → ℕ → ℕ → ℕ → ℤ → Statement
-plain o rd rs1 rs2 imm = Plain (record { op = o; rd = rd; rs1 = rs1; rs2 = rs2; imm = imm })
+-- The cause to refuse a word that names nothing.
+abbrev pub unknown : List ℕ → AsmCause
+unknown word = if is_directive word then causes.Directive else causes.Mnemonic
 
--- The instructions by their operands. An operand that is no register or no name gives Operand. A number comes
--- last, so that Number is given where nothing else is wrong.
+-- Operands
 
--- `add rd, rs1, rs2`
-unfoldable pub on_registers : Op → List (List ℕ) → Result Statement AsmCause
-on_registers o operands = with_three (λ a b c.
-    register a >>= (λ rd. register b >>= (λ rs1. register c >>= (λ rs2. Ok (plain o rd rs1 rs2 (pos 0)))))) operands
+abbrev pub kinds_by : Shape → List Kind
+kinds_by shapes.Registers = Rd ∷ Rs1 ∷ Rs2 ∷ []  -- add rd, rs1, rs2
+kinds_by shapes.Immediate = Rd ∷ Rs1 ∷ Number ∷ []  -- addi rd, rs1, n
+kinds_by shapes.Upper = Rd ∷ Number ∷ []  -- lui rd, n
+kinds_by shapes.Load = Rd ∷ Address ∷ []  -- ld rd, n(rs1)
+kinds_by shapes.Store = Rs2 ∷ Address ∷ []  -- sd rs2, n(rs1)
+kinds_by shapes.Branch = Rs1 ∷ Rs2 ∷ Label ∷ []  -- beq rs1, rs2, NAME
+kinds_by shapes.Jump = Rd ∷ Label ∷ []  -- jal rd, NAME
+kinds_by shapes.Alone = []  -- ecall
 
--- `addi rd, rs1, n`
-unfoldable pub on_immediate : Op → List (List ℕ) → Result Statement AsmCause
-on_immediate o operands = with_three (λ a b c.
-    register a >>= (λ rd. register b >>= (λ rs1. number c >>= (λ n. Ok (plain o rd rs1 0 (immediate n)))))) operands
+abbrev pub pseudo_kinds : Pseudo → List Kind
+pseudo_kinds pseudos.Li = Rd ∷ Number ∷ []  -- li rd, n
+pseudo_kinds pseudos.La = Rd ∷ Label ∷ []  -- la rd, NAME
+pseudo_kinds pseudos.Mv = Rd ∷ Rs1 ∷ []  -- mv rd, rs
+pseudo_kinds pseudos.J = Label ∷ []  -- j NAME
+pseudo_kinds pseudos.Call = Label ∷ []  -- call NAME
+pseudo_kinds pseudos.Ret = []  -- ret
+pseudo_kinds pseudos.Nop = []  -- nop
 
--- `lui rd, n`
-unfoldable pub upper : Op → List (List ℕ) → Result Statement AsmCause
-upper o operands = with_two (λ a b. register a >>= (λ rd. number b >>= (λ n. Ok (Upper o rd n)))) operands
+abbrev pub directive_syntax : Directive → Syntax
+directive_syntax directives.Ascii = Quoted  -- .ascii "TEXT"
+directive_syntax directives.Byte = operands.Numbers  -- .byte n, ..
+directive_syntax directives.Word = operands.Numbers  -- .word n, ..
+directive_syntax directives.Dword = operands.Numbers  -- .dword n, ..
+directive_syntax directives.Zero = Each (Number ∷ [])  -- .zero n
+directive_syntax directives.Align = Each (Number ∷ [])  -- .align n
 
--- `ld rd, n(rs1)`
-unfoldable pub load : Op → List (List ℕ) → Result Statement AsmCause
-load o operands = with_two (λ a b.
-    register a >>= (λ rd. address b >>= (λ at. Ok (plain o rd at.base 0 (immediate at.offset))))) operands
+-- The operands of a word.
+abbrev pub syntax_of : Word → Syntax
+syntax_of (words.Instruction o) = Each (kinds_by (shape_of o))
+syntax_of (words.Pseudo p) = Each (pseudo_kinds p)
+syntax_of (words.Directive d) = directive_syntax d
 
--- `sd rs2, n(rs1)`
-unfoldable pub store : Op → List (List ℕ) → Result Statement AsmCause
-store o operands = with_two (λ a b.
-    register a >>= (λ rs2. address b >>= (λ at. Ok (plain o 0 at.base rs2 (immediate at.offset))))) operands
+-- Statements, by what the operands give
 
--- `beq rs1, rs2, NAME`
-unfoldable pub branch : Op → List (List ℕ) → Result Statement AsmCause
-branch o operands = with_three (λ a b c.
-    register a >>= (λ rs1. register b >>= (λ rs2. name c >>= (λ label. Ok (Branch o rs1 rs2 label))))) operands
+abbrev pub instruction_by : Shape → Op → Fields → ℤ → Statement
+instruction_by shapes.Registers o f n = Plain o f.rd f.rs1 f.rs2 n
+instruction_by shapes.Immediate o f n = Plain o f.rd f.rs1 f.rs2 n
+instruction_by shapes.Upper o f n = Upper o f.rd n
+instruction_by shapes.Load o f n = Plain o f.rd f.rs1 f.rs2 n
+instruction_by shapes.Store o f n = Plain o f.rd f.rs1 f.rs2 n
+instruction_by shapes.Branch o f n = Branch o f.rs1 f.rs2 f.label
+instruction_by shapes.Jump o f n = Jump f.rd f.label
+instruction_by shapes.Alone o f n = Plain o f.rd f.rs1 f.rs2 n
 
--- `jal rd, NAME`
-unfoldable pub jump : List (List ℕ) → Result Statement AsmCause
-jump operands = with_two (λ a b. register a >>= (λ rd. name b >>= (λ label. Ok (Jump rd label)))) operands
+-- `mv` is ADDI with 0, `j` and `call` are JAL with x0 and ra, `ret` is JALR to ra, `nop` is ADDI of x0 with 0.
+abbrev pub pseudo_by : Pseudo → Fields → ℤ → Statement
+pseudo_by pseudos.Li f n = LoadNumber f.rd n
+pseudo_by pseudos.La f n = LoadAddress f.rd f.label
+pseudo_by pseudos.Mv f n = Plain op.Addi f.rd f.rs1 0 (pos 0)
+pseudo_by pseudos.J f n = Jump 0 f.label
+pseudo_by pseudos.Call f n = Jump 1 f.label
+pseudo_by pseudos.Ret f n = Plain op.Jalr 0 1 0 (pos 0)
+pseudo_by pseudos.Nop f n = Plain op.Addi 0 0 0 (pos 0)
 
--- `ecall`
-unfoldable pub alone : Instr → List (List ℕ) → Result Statement AsmCause
-alone i operands = if length operands == 0 then Ok (Plain i) else Err causes.Operand
+-- The number among the operands.
+abbrev pub number_in : List (List ℕ) → ℤ
+number_in texts = value_of (fields_of (Number ∷ []) texts).number
 
-abbrev pub by_shape : Shape → Op → List (List ℕ) → Result Statement AsmCause
-by_shape shapes.Registers o operands = on_registers o operands
-by_shape shapes.Immediate o operands = on_immediate o operands
-by_shape shapes.Upper o operands = upper o operands
-by_shape shapes.Load o operands = load o operands
-by_shape shapes.Store o operands = store o operands
-by_shape shapes.Branch o operands = branch o operands
-by_shape shapes.Jump o operands = jump operands
-by_shape shapes.Alone o operands = alone (record { op = o; rd = 0; rs1 = 0; rs2 = 0; imm = pos 0 }) operands
+abbrev pub directive_by : Directive → List (List ℕ) → Statement
+directive_by directives.Ascii texts = Bytes (bytes_in texts)
+directive_by directives.Byte texts = Numbers widths.Byte (map value_of texts)
+directive_by directives.Word texts = Numbers widths.Word (map value_of texts)
+directive_by directives.Dword texts = Numbers widths.Dword (map value_of texts)
+directive_by directives.Zero texts = Zeros (number_in texts)
+directive_by directives.Align texts = Align (number_in texts)
 
-unfoldable pub instruction : Op → List (List ℕ) → Result Statement AsmCause
-instruction o operands = by_shape (shape_of o) o operands
-
--- Instructions that stand for others
-
--- `li rd, n`
-unfoldable pub load_number : List (List ℕ) → Result Statement AsmCause
-load_number operands = with_two (λ a b. register a >>= (λ rd. number b >>= (λ n. Ok (LoadNumber rd n)))) operands
-
--- `la rd, NAME`
-unfoldable pub load_address : List (List ℕ) → Result Statement AsmCause
-load_address operands = with_two (λ a b. register a >>= (λ rd. name b >>= (λ label. Ok (LoadAddress rd label)))) operands
-
--- `mv rd, rs` is ADDI with 0.
-unfoldable pub copy : List (List ℕ) → Result Statement AsmCause
-copy operands = with_two (λ a b.
-    register a >>= (λ rd. register b >>= (λ rs. Ok (plain op.Addi rd rs 0 (pos 0))))) operands
-
--- `j NAME` and `call NAME` are JAL with x0 and ra.
-unfoldable pub linked_jump : ℕ → List (List ℕ) → Result Statement AsmCause
-linked_jump link operands = with_one (λ a. name a >>= (λ label. Ok (Jump link label))) operands
-
--- `ret` is JALR to ra, and `nop` is ADDI of x0 with 0.
-abbrev pub pseudo_statement : Pseudo → List (List ℕ) → Result Statement AsmCause
-pseudo_statement pseudos.Li operands = load_number operands
-pseudo_statement pseudos.La operands = load_address operands
-pseudo_statement pseudos.Mv operands = copy operands
-pseudo_statement pseudos.J operands = linked_jump 0 operands
-pseudo_statement pseudos.Call operands = linked_jump 1 operands
-pseudo_statement pseudos.Ret operands = alone (record { op = op.Jalr; rd = 0; rs1 = 1; rs2 = 0; imm = pos 0 }) operands
-pseudo_statement pseudos.Nop operands = alone (record { op = op.Addi; rd = 0; rs1 = 0; rs2 = 0; imm = pos 0 }) operands
-
--- Directives
-
--- `.zero n`
-unfoldable pub zeros : List (List ℕ) → Result Statement AsmCause
-zeros operands = with_one (λ a. number a >>= (λ n. Ok (Zeros n))) operands
-
--- `.align n`
-unfoldable pub align : List (List ℕ) → Result Statement AsmCause
-align operands = with_one (λ a. number a >>= (λ n. Ok (Align n))) operands
-
--- `.ascii "TEXT"`
-unfoldable pub ascii : List (List ℕ) → Result Statement AsmCause
-ascii operands = with_one (λ a. ok_or (quoted a) causes.Operand >>= (λ bytes. Ok (Bytes bytes))) operands
-
--- `.byte n, ..`
-abbrev pub sized : Width → List (List ℕ) → Result Statement AsmCause
-sized width operands = numbers operands >>= (λ ns. Ok (Numbers width ns))
-
-abbrev pub directive_statement : Directive → List (List ℕ) → Result Statement AsmCause
-directive_statement directives.Ascii operands = ascii operands
-directive_statement directives.Byte operands = sized widths.Byte operands
-directive_statement directives.Word operands = sized widths.Word operands
-directive_statement directives.Dword operands = sized widths.Dword operands
-directive_statement directives.Zero operands = zeros operands
-directive_statement directives.Align operands = align operands
-
--- The statement of a first word and its operands, or the first cause for which they are refused by themselves.
-unfoldable pub statement_of : List ℕ → List (List ℕ) → Result Statement AsmCause
-statement_of word operands =
-    if starts_with nat_eq word (46 ∷ [])
-    then ok_or (directive_named word) causes.Directive >>= (λ d. directive_statement d operands)
-    else by_name (op_named word) (pseudo_named word)
-  where
-    by_name : Option Op → Option Pseudo → Result Statement AsmCause
-    by_name (Some o) p = instruction o operands
-    by_name None p = ok_or p causes.Mnemonic >>= (λ named. pseudo_statement named operands)
+-- The statement of a word with operands.
+abbrev pub statement_of : Word → List (List ℕ) → Statement
+statement_of (words.Instruction o) texts =
+    let f = fields_of (kinds_by (shape_of o)) texts in instruction_by (shape_of o) o f (value_of f.number)
+statement_of (words.Pseudo p) texts = let f = fields_of (pseudo_kinds p) texts in pseudo_by p f (value_of f.number)
+statement_of (words.Directive d) texts = directive_by d texts

@@ -1,13 +1,16 @@
-ghost use Rattle.std.specs.Prelude.{◌≡◌, ◌≤◌, ◌<◌, ◌+◌, ◌-◌, ◌^◌, ◌++◌, min, pos, negsuc, ◌≤ℤ◌, IfOk, OnOk, replicate, length};
+ghost use Rattle.std.specs.Prelude.{◌≡◌, ◌≤◌, ◌<◌, ◌-◌, ◌^◌, ◌++◌, ◌∷◌, [], true, false, ◌&&◌, min, pos, negsuc, ◌-ℤ◌, ◌≤ℤ◌, IfOk, OnOk, option_map, replicate};
+ghost use Rattle.std.specs.Option.{ok_or};
 ghost use Rattle.std.specs.List.{flat_map, list_all};
-ghost use Rattle.rv_asm.specs.Encoding.{farthest, base, behind, width_size, width_half, fits_width, is_short, padding, statement_size, residue, low_part, high_part, word, one, two, distance, upper_words, number_words, branch_words, jump_words, address_words, empty_if, words_of, words_bytes, number_bytes, data_of, bytes_of, HasAppended};
+ghost use Rattle.rv_core.specs.Encoding.{encoded, is_signed_by, is_below};
+ghost use Rattle.rv_asm.specs.declared.AsmCause.TheVariants.{Label};
+ghost use Rattle.rv_asm.specs.Words.{words_list, HasWords, HasAppended};
+ghost use Rattle.rv_asm.specs.Encoding.{farthest, address_behind, base, width_size, fits_width, is_short, padding, count_of, statement_size, residue, low_part, high_part, page_immediate, instr, two_instructions, number_instructions, instructions_of, fits_word, fits_values, is_undefined, word_bytes, number_bytes, data_of, bytes_of};
 ghost use Rattle.rv_asm.specs.Labels.{defined};
 
 use crate::AsmCause;
 use crate::labels::{Definition, Labels};
-use crate::operands::immediate;
-use crate::statement::{Statement, Width, plain};
-use crate::text::before;
+use crate::refusal::LineError;
+use crate::statement::{Statement, Width};
 use rv_core::{Instr, Op, encode};
 use std::alloc::AllocError;
 
@@ -17,7 +20,7 @@ pub const BASE: u64 = 0x10078;
 /// The greatest address that the bytes may end at.
 const LIMIT: u64 = BASE + (1 << 20);
 
-/// The words of an instruction, or of two.
+/// The words of no instruction, of one or of two.
 #[derive(Clone, Copy)]
 pub enum Words {
     Empty,
@@ -25,9 +28,9 @@ pub enum Words {
     Two(u32, u32),
 }
 
-/// The address behind so many bytes.
+/// The address behind so many bytes, or the greatest.
 pub fn address_behind(at: u64, size: u64) -> u64
-    ensures { result ≡ behind at size }
+    ensures { result ≡ address_behind at size }
 {
     at.saturating_add(size)
 }
@@ -73,7 +76,7 @@ fn padding(at: u64, n: u64) -> u64
 }
 
 /// The number modulo twice `half`, from minus `half` on.
-fn residue(half: u32, number: i128) -> i64
+fn residue(half: u32, number: i128) -> i128
     requires low { 0 < half }
     requires high { half ≤ 2 ^ 31 }
     ensures value { result ≡ residue half number }
@@ -83,34 +86,11 @@ fn residue(half: u32, number: i128) -> i64
     let half = i128::from(half);
     let whole = half + half;
     let rest = number.rem_euclid(whole);
-    if rest < half {
-        rest as i64
-    } else {
-        (rest - whole) as i64
-    }
+    if rest < half { rest } else { rest - whole }
 }
 
-fn word(instr: &Instr) -> Result<u32, AsmCause>
-    ensures { result ≡ word instr.now }
-{
-    encode(instr).ok_or(AsmCause::Range)
-}
-
-fn one(instr: &Instr) -> Result<Words, AsmCause>
-    ensures { result ≡ one instr.now }
-{
-    Ok(Words::One(word(instr)?))
-}
-
-fn two(first: &Instr, second: &Instr) -> Result<Words, AsmCause>
-    ensures { result ≡ two first.now second.now }
-{
-    let first = word(first)?;
-    let second = word(second)?;
-    Ok(Words::Two(first, second))
-}
-
-fn low_part(number: i128) -> i64
+#[tactic(auto, unfolding(crate::specs::Encoding::low_part))]
+fn low_part(number: i128) -> i128
     ensures value { result ≡ low_part number }
     ensures lower { negsuc (2 ^ 31) ≤ℤ result }
     ensures upper { result ≤ℤ pos (2 ^ 31) }
@@ -118,17 +98,36 @@ fn low_part(number: i128) -> i64
     residue(1 << 11, number)
 }
 
-fn high_part(number: i128) -> i64
+fn high_part(number: i128) -> i128
     requires low { negsuc (2 ^ 64) ≤ℤ number }
     requires high { number ≤ℤ pos (2 ^ 64) }
-    ensures { result ≡ high_part number }
+    ensures value { result ≡ high_part number }
+    ensures lower { negsuc (2 ^ 31) ≤ℤ result }
+    ensures upper { result ≤ℤ pos (2 ^ 31) }
 {
-    residue(1 << 31, number - i128::from(low_part(number)))
+    residue(1 << 31, number - low_part(number))
+}
+
+/// The word of the instruction with these fields.
+fn word(op: Op, rd: u8, rs1: u8, rs2: u8, imm: i128) -> Result<u32, AsmCause>
+    ensures { result ≡ ok_or (encoded (instr op rd rs1 rs2 imm)) AsmCause.Range }
+{
+    let Ok(imm) = i64::try_from(imm) else {
+        return Err(AsmCause::Range);
+    };
+    let instr = Instr {
+        op,
+        rd,
+        rs1,
+        rs2,
+        imm,
+    };
+    encode(&instr).ok_or(AsmCause::Range)
 }
 
 /// How far a label is from `at`.
 fn distance(found: Option<Definition>, at: u64) -> Result<i128, AsmCause>
-    ensures value { result ≡ distance found at }
+    ensures value { result ≡ ok_or (option_map (λ d. pos d.address -ℤ pos at) found) Label }
     ensures low { IfOk result (λ d. negsuc (2 ^ 64) ≤ℤ d) }
     ensures high { IfOk result (λ d. d ≤ℤ pos (2 ^ 64)) }
 {
@@ -136,63 +135,54 @@ fn distance(found: Option<Definition>, at: u64) -> Result<i128, AsmCause>
     Ok(i128::from(definition.address) - i128::from(at))
 }
 
-/// LUI or AUIPC with the number of a page.
+/// The one word of an instruction.
+fn one(op: Op, rd: u8, rs1: u8, rs2: u8, imm: i128) -> Result<Words, AsmCause>
+    ensures { HasWords result false (fits_word (instr op rd rs1 rs2 imm) && true) (instr op rd rs1 rs2 imm ∷ []) }
+{
+    Ok(Words::One(word(op, rd, rs1, rs2, imm)?))
+}
+
+/// The word of LUI or AUIPC with the number of a page.
+#[tactic(auto, unfolding(crate::specs::Encoding::page_immediate))]
 fn upper(op: Op, rd: u8, page: i128) -> Result<Words, AsmCause>
-    ensures { result ≡ upper_words op rd page }
+    ensures { HasWords result false (is_below (2 ^ 20) page && (fits_word (instr op rd 0 0 (page_immediate page)) && true))
+        (instr op rd 0 0 (page_immediate page) ∷ []) }
 {
     if page < 0 || page >= 1 << 20 {
         return Err(AsmCause::Range);
     }
-    let imm = residue(1 << 31, page * (1 << 12));
-    one(&plain(op, rd, 0, 0, imm))
+    one(op, rd, 0, 0, residue(1 << 31, page * (1 << 12)))
 }
 
-/// The instructions by which a register gets a number.
-fn load_number(rd: u8, number: i128) -> Result<Words, AsmCause>
-    ensures { result ≡ number_words rd number }
+/// The words of an instruction with the high part of a number, and of one that adds the low part.
+fn two(upper: Op, lower: Op, rd: u8, number: i128) -> Result<Words, AsmCause>
+    requires low { negsuc (2 ^ 64) ≤ℤ number }
+    requires high { number ≤ℤ pos (2 ^ 64) }
+    ensures { HasWords result false (list_all fits_word (two_instructions upper lower rd number))
+        (two_instructions upper lower rd number) }
 {
-    if is_short(number) {
-        return one(&plain(Op::Addi, rd, 0, 0, number as i64));
-    }
+    let upper = word(upper, rd, 0, 0, high_part(number))?;
+    let lower = word(lower, rd, rd, 0, low_part(number))?;
+    Ok(Words::Two(upper, lower))
+}
+
+/// The words by which a register gets a number.
+fn number_words(rd: u8, number: i128) -> Result<Words, AsmCause>
+    ensures { HasWords result false
+        (is_signed_by (2 ^ 31) number && list_all fits_word (number_instructions rd number)) (number_instructions rd number) }
+{
     if number < -(1 << 31) || number >= 1 << 31 {
         return Err(AsmCause::Range);
     }
-    two(
-        &plain(Op::Lui, rd, 0, 0, high_part(number)),
-        &plain(Op::Addiw, rd, rd, 0, low_part(number)),
-    )
-}
-
-/// A branch to a label.
-fn branch(op: Op, rs1: u8, rs2: u8, found: Option<Definition>, at: u64) -> Result<Words, AsmCause>
-    ensures { result ≡ branch_words op rs1 rs2 found at }
-{
-    let distance = distance(found, at)?;
-    one(&plain(op, 0, rs1, rs2, immediate(distance)))
-}
-
-/// A jump to a label.
-fn jump(rd: u8, found: Option<Definition>, at: u64) -> Result<Words, AsmCause>
-    ensures { result ≡ jump_words rd found at }
-{
-    let distance = distance(found, at)?;
-    one(&plain(Op::Jal, rd, 0, 0, immediate(distance)))
-}
-
-/// The instructions by which a register gets the address of a label.
-fn load_address(rd: u8, found: Option<Definition>, at: u64) -> Result<Words, AsmCause>
-    ensures { result ≡ address_words rd found at }
-{
-    let distance = distance(found, at)?;
-    two(
-        &plain(Op::Auipc, rd, 0, 0, high_part(distance)),
-        &plain(Op::Addi, rd, rd, 0, low_part(distance)),
-    )
+    if is_short(number) {
+        return one(Op::Addi, rd, 0, 0, number);
+    }
+    two(Op::Lui, Op::Addiw, rd, number)
 }
 
 /// No words, where the values of data fit.
 fn empty_if(fits: bool) -> Result<Words, AsmCause>
-    ensures { result ≡ empty_if fits }
+    ensures { HasWords result false (fits && true) [] }
 {
     if fits {
         Ok(Words::Empty)
@@ -210,7 +200,7 @@ fn all_fit(width: Width, numbers: &[i128]) -> bool
 impl Words {
     /// Appends the bytes of the words.
     fn append_to(self, out: &mut Vec<u8>) -> Result<(), AllocError>
-        ensures { OnOk result (out.new.items ≡ out.old.items ++ words_bytes self) }
+        ensures { OnOk result (out.new.items ≡ out.old.items ++ flat_map word_bytes (words_list self)) }
     {
         match self {
             Words::Empty => Ok(()),
@@ -238,7 +228,7 @@ fn append_number(width: Width, number: i128, out: &mut Vec<u8>) -> Result<(), Al
     ensures { OnOk result (out.new.items ≡ out.old.items ++ number_bytes width number) }
 {
     let bytes = number.to_le_bytes();
-    out.extend_from_slice(before(bytes.as_slice(), width.size()))
+    out.extend_from_slice(&bytes[..width.size()])
 }
 
 /// Appends the bytes of the numbers.
@@ -251,13 +241,13 @@ fn append_numbers(width: Width, numbers: &[i128], out: &mut Vec<u8>) -> Result<(
     Ok(())
 }
 
-impl Statement<'_> {
-    /// How many bytes it takes at an address, or the greatest that counts.
+impl<'a> Statement<'a> {
+    /// How many bytes it takes at an address, or the greatest number.
     pub fn size(&self, at: u64) -> u64
         ensures { result ≡ min farthest (statement_size at self.now) }
     {
         match self {
-            Statement::Plain(_)
+            Statement::Plain(_, _, _, _, _)
             | Statement::Upper(_, _, _)
             | Statement::Branch(_, _, _, _)
             | Statement::Jump(_, _) => 4,
@@ -278,19 +268,24 @@ impl Statement<'_> {
     }
 
     /// The words of its instructions, or the first cause for which its labels and values refuse it.
-    #[tactic(auto, unfolding(crate::specs::Encoding::words_of))]
-    fn words(&self, labels: &Labels, at: u64) -> Result<Words, AsmCause>
-        ensures { result ≡ words_of (defined labels.now) at self.now }
+    #[tactic(auto, unfolding(crate::specs::Encoding::instructions_of))]
+    fn words(&self, labels: &Labels<'a>, at: u64) -> Result<Words, AsmCause>
+        ensures { HasWords result (is_undefined (defined labels.now) self.now) (fits_values (defined labels.now) at self.now)
+            (instructions_of (defined labels.now) at self.now) }
     {
         match self {
-            Statement::Plain(instr) => one(instr),
+            Statement::Plain(op, rd, rs1, rs2, imm) => one(*op, *rd, *rs1, *rs2, *imm),
             Statement::Upper(op, rd, page) => upper(*op, *rd, *page),
             Statement::Branch(op, rs1, rs2, label) => {
-                branch(*op, *rs1, *rs2, labels.get(label), at)
+                one(*op, 0, *rs1, *rs2, distance(labels.get(label), at)?)
             }
-            Statement::Jump(rd, label) => jump(*rd, labels.get(label), at),
-            Statement::LoadNumber(rd, number) => load_number(*rd, *number),
-            Statement::LoadAddress(rd, label) => load_address(*rd, labels.get(label), at),
+            Statement::Jump(rd, label) => {
+                one(Op::Jal, *rd, 0, 0, distance(labels.get(label), at)?)
+            }
+            Statement::LoadNumber(rd, number) => number_words(*rd, *number),
+            Statement::LoadAddress(rd, label) => {
+                two(Op::Auipc, Op::Addi, *rd, distance(labels.get(label), at)?)
+            }
             Statement::Bytes(_) => Ok(Words::Empty),
             Statement::Numbers(width, numbers) => empty_if(all_fit(*width, numbers.as_slice())),
             Statement::Zeros(count) => empty_if(*count >= 0),
@@ -308,7 +303,7 @@ impl Statement<'_> {
             Statement::Bytes(bytes) => out.extend_from_slice(bytes.as_slice()),
             Statement::Numbers(width, numbers) => append_numbers(*width, numbers.as_slice(), out),
             Statement::Zeros(_) | Statement::Align(_) => append_zeros(self.size(at), out),
-            Statement::Plain(_)
+            Statement::Plain(_, _, _, _, _)
             | Statement::Upper(_, _, _)
             | Statement::Branch(_, _, _, _)
             | Statement::Jump(_, _)
@@ -319,23 +314,15 @@ impl Statement<'_> {
 
     /// Appends its bytes, or gives the first cause for which its labels, values and size refuse it.
     #[tactic(auto, unfolding(crate::specs::Encoding::bytes_of))]
-    pub fn append(
-        &self,
-        labels: &Labels,
-        at: u64,
-        out: &mut Vec<u8>,
-    ) -> Result<Result<(), AsmCause>, AllocError>
-        ensures { IfOk result (HasAppended (bytes_of (defined labels.now) at self.now) out.old.items out.new.items) }
+    pub fn append(&self, labels: &Labels<'a>, at: u64, out: &mut Vec<u8>) -> Result<(), LineError>
+        ensures { HasAppended (bytes_of (defined labels.now) at self.now) out.old.items out.new.items result }
     {
-        let words = match self.words(labels, at) {
-            Ok(words) => words,
-            Err(cause) => return Ok(Err(cause)),
-        };
+        let words = self.words(labels, at)?;
         if address_behind(at, self.size(at)) > LIMIT {
-            return Ok(Err(AsmCause::Big));
+            return Err(LineError::Refused(AsmCause::Big));
         }
         words.append_to(out)?;
         self.append_data(at, out)?;
-        Ok(Ok(()))
+        Ok(())
     }
 }

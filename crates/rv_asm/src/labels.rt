@@ -2,9 +2,9 @@ ghost use Rattle.std.specs.Prelude.{◌≡◌, List, ℕ, if◌then◌else◌, N
 ghost use Rattle.std.specs.Str.{bytes_eq};
 ghost use Rattle.rv_asm.specs.Labels.{defined, otherwise};
 
-use crate::text::Text;
+use asm_text::Text;
 use std::alloc::{AllocError, Global};
-use std::collections::HashMap;
+use std::collections::BTreeMap;
 
 /// Where a label is defined: the line, counted from 1, and the address.
 #[derive(Clone, Copy)]
@@ -16,7 +16,7 @@ pub struct Definition {
 /// The first definition of each label.
 #[derive(Drop)]
 pub struct Labels<'a> {
-    definitions: HashMap<&'a [u8], Definition>,
+    definitions: BTreeMap<&'a [u8], Definition>,
 }
 
 impl<'a> Labels<'a> {
@@ -24,7 +24,7 @@ impl<'a> Labels<'a> {
         ensures { (name : List ℕ) → defined result name ≡ None }
     {
         Labels {
-            definitions: HashMap::new(alloc),
+            definitions: BTreeMap::new(alloc),
         }
     }
 

@@ -2,6 +2,7 @@
 #![tactic(auto)]
 
 ghost use Rattle.std.specs.Prelude.{◌≡◌};
+ghost use Rattle.rv_asm.specs.Causes.{HasCause};
 ghost use Rattle.rv_asm.specs.Program.{Tells, Follows, assembled, outcomes};
 
 use bas_items::Items;
@@ -14,12 +15,10 @@ mod labels;
 mod laws;
 mod line;
 mod mnemonics;
-mod numbers;
 mod operands;
 mod program;
-mod registers;
+mod refusal;
 mod statement;
-mod text;
 
 pub use laws::addresses_are_places;
 
@@ -82,6 +81,7 @@ impl From<AllocError> for AsmError {
 pub fn assemble(alloc: Global, text: &[u8]) -> Result<Items<u8>, AsmError>
     ensures exact { Tells result (assembled text.now) }
     ensures lines { Follows (outcomes text.now) result }
+    ensures causes { HasCause text.now result }
 {
     let labels = program::define_labels(alloc, text)?;
     let bytes = program::bytes_of(alloc, text, &labels)?;

@@ -2,18 +2,17 @@ ghost use Rattle.std.specs.Prelude.{◌≡◌, List, ℕ, IfOk, OnOk};
 ghost use Rattle.std.specs.Option.{option_copied};
 ghost use Rattle.std.specs.List.{list_any};
 ghost use Rattle.std.specs.Str.{is_utf8};
+ghost use Rattle.rv_asm.specs.Answers.{Answers, nearest_said, nearest_line};
 ghost use Rattle.rv_asm.specs.Labels.{defined, otherwise, own_definition};
-ghost use Rattle.rv_asm.specs.Encoding.{HasAppended};
+ghost use Rattle.rv_asm.specs.Words.{HasAppended};
 ghost use Rattle.rv_asm.specs.Line.{uncommented, label_text, statement_text, first_word, operand_texts, shares_quote, has_fault, label_of, statement_in, read, line_end, is_twice, line_bytes};
 
 use crate::AsmCause;
 use crate::encoding::address_behind;
 use crate::labels::{Definition, Labels};
-use crate::statement::{Statement, statement_of};
-use crate::text::{
-    Text, before, behind, from, is_closed, is_name, length_before, operands, quoted, trim,
-    trim_start,
-};
+use crate::refusal::LineError;
+use crate::statement::{Statement, statement_of, word_named};
+use asm_text::{Text, is_closed, is_name, operands, quoted, split_at_mark, trim, trim_start};
 use std::alloc::{AllocError, Global};
 
 /// What a line says.
@@ -30,7 +29,7 @@ pub struct Line<'a> {
 fn uncommented(line: &[u8]) -> &[u8]
     ensures { result.now ≡ uncommented line.now }
 {
-    before(line, length_before(b"#", line))
+    split_at_mark(b"#", line).0
 }
 
 /// What stands before the first `:`, if there is one.
@@ -38,11 +37,10 @@ fn uncommented(line: &[u8]) -> &[u8]
 fn label_text(text: &[u8]) -> Option<&[u8]>
     ensures { option_copied result ≡ label_text text.now }
 {
-    let colon = length_before(b":", text);
-    if colon == text.len() {
-        return None;
+    match split_at_mark(b":", text) {
+        (label, Some(_rest)) => Some(trim_start(label)),
+        (_all, None) => None,
     }
-    Some(trim_start(before(text, colon)))
 }
 
 /// What stands behind the first `:`, or all.
@@ -50,26 +48,24 @@ fn label_text(text: &[u8]) -> Option<&[u8]>
 fn statement_text(text: &[u8]) -> &[u8]
     ensures { result.now ≡ statement_text text.now }
 {
-    let colon = length_before(b":", text);
-    if colon == text.len() {
-        return trim(text);
-    }
-    trim(behind(text, colon))
+    trim(split_at_mark(b":", text).1.unwrap_or(text))
 }
 
 #[tactic(auto, unfolding(crate::specs::Line::first_word))]
 fn first_word(statement: &[u8]) -> &[u8]
     ensures { result.now ≡ first_word statement.now }
 {
-    before(statement, length_before(b" \t", statement))
+    split_at_mark(b" \t", statement).0
 }
 
 #[tactic(auto, unfolding(crate::specs::Line::operand_texts))]
 fn operand_texts<'a>(alloc: Global, statement: &'a [u8]) -> Result<Vec<Text<'a>>, AllocError>
     ensures { IfOk result (λ v. v.items ≡ operand_texts statement.now) }
 {
-    let end = length_before(b" \t", statement);
-    operands(alloc, trim(from(statement, end)))
+    operands(
+        alloc,
+        trim(split_at_mark(b" \t", statement).1.unwrap_or(b"")),
+    )
 }
 
 /// Whether the operand has a quote and isn't one quoted text.
@@ -134,22 +130,20 @@ fn statement_in<'a>(
     alloc: Global,
     word: &[u8],
     operands: &[Text<'a>],
-) -> Result<Result<Option<Statement<'a>>, AsmCause>, AllocError>
-    ensures { IfOk result (λ r. r ≡ statement_in word.now operands.now) }
+) -> Result<Option<Statement<'a>>, LineError>
+    ensures { Answers result (nearest_said (statement_in word.now operands.now)) }
 {
     if word.is_empty() {
-        return Ok(Ok(None));
+        return Ok(None);
     }
-    match statement_of(alloc, word, operands)? {
-        Ok(statement) => Ok(Ok(Some(statement))),
-        Err(cause) => Ok(Err(cause)),
-    }
+    let named = word_named(word)?;
+    Ok(Some(statement_of(alloc, named, operands)?))
 }
 
 /// What the line says.
 #[tactic(auto, unfolding(crate::specs::Line::read))]
 pub fn read<'a>(alloc: Global, line: &'a [u8]) -> Result<Line<'a>, AllocError>
-    ensures { IfOk result (λ said. said ≡ read line.now) }
+    ensures { IfOk result (λ said. said ≡ nearest_line (read line.now)) }
 {
     let text = uncommented(line);
     let label = label_of(label_text(text));
@@ -159,12 +153,21 @@ pub fn read<'a>(alloc: Global, line: &'a [u8]) -> Result<Line<'a>, AllocError>
         let statement = Err(AsmCause::Text);
         return Ok(Line { label, statement });
     }
-    let statement = statement_in(alloc, first_word(statement), &operands)?;
-    Ok(Line { label, statement })
+    match statement_in(alloc, first_word(statement), &operands) {
+        Ok(statement) => Ok(Line {
+            label,
+            statement: Ok(statement),
+        }),
+        Err(LineError::Refused(cause)) => Ok(Line {
+            label,
+            statement: Err(cause),
+        }),
+        Err(LineError::Memory) => Err(AllocError),
+    }
 }
 
 impl<'a> Line<'a> {
-    /// The address behind the line.
+    /// The address behind the line, or the greatest.
     pub fn end(&self, at: u64) -> u64
         ensures { result ≡ line_end at self.now }
     {
@@ -212,20 +215,20 @@ impl<'a> Line<'a> {
         number: u64,
         at: u64,
         out: &mut Vec<u8>,
-    ) -> Result<Result<(), AsmCause>, AllocError>
-        ensures { IfOk result (HasAppended (line_bytes (defined labels.now) number at self.now)
-            out.old.items out.new.items) }
+    ) -> Result<(), LineError>
+        ensures { HasAppended (line_bytes (defined labels.now) number at self.now)
+            out.old.items out.new.items result }
     {
         let statement = match &self.statement {
             Ok(statement) => statement,
-            Err(cause) => return Ok(Err(*cause)),
+            Err(cause) => return Err(LineError::Refused(*cause)),
         };
         if self.is_twice(labels, number) {
-            return Ok(Err(AsmCause::Twice));
+            return Err(LineError::Refused(AsmCause::Twice));
         }
         match statement {
             Some(statement) => statement.append(labels, at, out),
-            None => Ok(Ok(())),
+            None => Ok(()),
         }
     }
 }

@@ -1,81 +1,135 @@
-ghost use Rattle.std.specs.Prelude.{◌≡◌, IfOk, IfSome, is_some};
+ghost use Rattle.std.specs.Prelude.{◌≡◌, if◌then◌else◌, Ok, Err, OnOk, map};
+ghost use Rattle.std.specs.Option.{ok_or};
 ghost use Rattle.std.specs.List.{list_all};
-ghost use Rattle.rv_asm.specs.Numbers.{is_number};
-ghost use Rattle.rv_asm.specs.Operands.{register, number, is_address, number_text, base_text, address, name, immediate, all_spelled, numbers};
+ghost use Rattle.asm_text.specs.Numbers.{is_number};
+ghost use Rattle.asm_text.specs.Registers.{register_of};
+ghost use Rattle.rv_asm.specs.Operands.{base, is_of, with_operand, no_fields, are_of, fields_of, is_spelled, bytes_in, unless_refused, Each, Numbers, Quoted};
+ghost use Rattle.rv_asm.specs.Answers.{Answers, nearest_value};
 
 use crate::AsmCause;
-use crate::numbers::{is_number, spelled};
-use crate::registers::register_of;
-use crate::text::{Text, before, behind, first_place, is_name};
+use crate::refusal::LineError;
+use asm_text::{Text, is_name, is_number, number_of, quoted, register_of, split_at_mark};
 use bas_items::Items;
-use std::alloc::{AllocError, Global};
+use std::alloc::Global;
 
-/// An operand `n(rs1)`.
+/// What an operand has to be, and which field of the statement it gives.
 #[derive(Clone, Copy)]
-pub struct Place {
-    pub offset: i128,
-    pub base: u8,
+pub enum Kind {
+    /// The register `rd`.
+    Rd,
+    /// The register `rs1`.
+    Rs1,
+    /// The register `rs2`.
+    Rs2,
+    /// A number.
+    Number,
+    /// A number, and the register `rs1` in parentheses.
+    Address,
+    /// The name of a label.
+    Label,
 }
 
-/// The register that the operand names.
-pub fn register(operand: &Text) -> Result<u8, AsmCause>
-    ensures { result ≡ register operand.now }
-{
-    register_of(operand.as_slice()).ok_or(AsmCause::Operand)
+/// What the operands of a statement give.
+#[derive(Drop)]
+pub struct Fields<'a> {
+    pub rd: u8,
+    pub rs1: u8,
+    pub rs2: u8,
+    /// The text of the number.
+    pub number: Text<'a>,
+    pub label: Text<'a>,
 }
 
-/// The number that the operand spells.
-pub fn number(operand: &Text) -> Result<i128, AsmCause>
-    ensures { result ≡ number operand.now }
+fn register(text: &[u8]) -> Result<u8, AsmCause>
+    ensures { result ≡ ok_or (register_of text.now) AsmCause.Operand }
 {
-    if !is_number(operand.as_slice()) {
+    register_of(text).ok_or(AsmCause::Operand)
+}
+
+/// The register in parentheses behind a number.
+#[tactic(auto, unfolding(crate::specs::Operands::base))]
+fn base(text: &[u8]) -> Result<u8, AsmCause>
+    ensures { result ≡ ok_or (base text.now) AsmCause.Operand }
+{
+    let (_number, behind) = split_at_mark(b"(", text);
+    let base = behind.ok_or(AsmCause::Operand)?.strip_suffix(b")");
+    register(base.ok_or(AsmCause::Operand)?)
+}
+
+/// The text, if it is of the kind number.
+fn number<'a>(text: &'a [u8]) -> Result<Text<'a>, AsmCause>
+    ensures { result ≡ if is_number text.now then Ok text.now else Err AsmCause.Operand }
+{
+    if !is_number(text) {
         return Err(AsmCause::Operand);
     }
-    spelled(operand.as_slice())
+    Ok(Text::new(text))
 }
 
-/// What stands before the parentheses and between them, where the operand has them at its end.
-fn address_parts(text: &[u8]) -> Option<(&[u8], &[u8])>
-    ensures form { is_some result ≡ is_address text.now }
-    ensures number { IfSome result (λ p. p.0.now ≡ number_text text.now) }
-    ensures base { IfSome result (λ p. p.1.now ≡ base_text text.now) }
-{
-    let open = first_place(text, b'(');
-    if !is_number(text) || open == text.len() {
-        return None;
+impl<'a> Fields<'a> {
+    /// The fields of no operands.
+    fn new() -> Fields<'a>
+        ensures { result ≡ no_fields }
+    {
+        Fields {
+            rd: 0,
+            rs1: 0,
+            rs2: 0,
+            number: Text::new(b"0"),
+            label: Text::new(b""),
+        }
     }
-    let inside = behind(text, open).strip_suffix(b")")?;
-    Some((before(text, open), inside))
+
+    /// Adds what an operand of the kind gives, if it is of the kind.
+    fn add(&mut self, kind: Kind, operand: &Text<'a>) -> Result<(), AsmCause>
+        ensures kind { result ≡ if is_of kind operand.now then Ok tt else Err AsmCause.Operand }
+        ensures field { OnOk result (self.new ≡ with_operand kind operand.now self.old) }
+    {
+        let text = operand.as_slice();
+        match kind {
+            Kind::Rd => self.rd = register(text)?,
+            Kind::Rs1 => self.rs1 = register(text)?,
+            Kind::Rs2 => self.rs2 = register(text)?,
+            Kind::Number => self.number = number(text)?,
+            Kind::Address => {
+                number(text)?;
+                self.rs1 = base(text)?;
+                self.number = Text::new(split_at_mark(b"(", text).0);
+            }
+            Kind::Label => {
+                if !is_name(text) {
+                    return Err(AsmCause::Operand);
+                }
+                self.label = Text::new(text);
+            }
+        }
+        Ok(())
+    }
 }
 
-/// The number before the parentheses, and the register between them.
-#[tactic(auto, unfolding(crate::specs::Operands::address))]
-pub fn address(operand: &Text) -> Result<Place, AsmCause>
-    ensures { result ≡ address operand.now }
+/// What operands give, if they are of these kinds.
+fn fields_of<'a>(kinds: &[Kind], operands: &[Text<'a>]) -> Result<Fields<'a>, AsmCause>
+    ensures { result ≡ if are_of kinds.now operands.now
+        then Ok (fields_of kinds.now operands.now) else Err AsmCause.Operand }
 {
-    let Some((number, base)) = address_parts(operand.as_slice()) else {
-        return Err(AsmCause::Operand);
-    };
-    let base = register(&Text::new(base))?;
-    let offset = spelled(number)?;
-    Ok(Place { offset, base })
-}
-
-/// The label's name that the operand is.
-pub fn name<'a>(operand: &Text<'a>) -> Result<Text<'a>, AsmCause>
-    ensures { result ≡ name operand.now }
-{
-    if !is_name(operand.as_slice()) {
+    if kinds.len() != operands.len() {
         return Err(AsmCause::Operand);
     }
-    Ok(Text::new(operand.as_slice()))
+    let mut fields = Fields::new();
+    for (i, kind) in kinds.iter().enumerate() {
+        fields.add(*kind, &operands[i])?;
+    }
+    Ok(fields)
 }
 
-/// The number as one of 64 bits, or the nearest of these, which fits no field of an instruction.
-pub fn immediate(number: i128) -> i64
-    ensures { result ≡ immediate number }
+/// What operands of these kinds give, and the value of their number.
+pub fn read<'a>(kinds: &[Kind], operands: &[Text<'a>]) -> Result<(Fields<'a>, i128), AsmCause>
+    ensures { result ≡ unless_refused (Each kinds.now) operands.now
+        (fields_of kinds.now operands.now, nearest_value (fields_of kinds.now operands.now).number) }
 {
-    number.clamp(i128::from(i64::MIN), i128::from(i64::MAX)) as i64
+    let fields = fields_of(kinds, operands)?;
+    let number = number_of(fields.number.as_slice()).ok_or(AsmCause::Number)?;
+    Ok((fields, number))
 }
 
 fn all_numbers(operands: &[Text]) -> bool
@@ -84,32 +138,34 @@ fn all_numbers(operands: &[Text]) -> bool
     operands.iter().all(|text| is_number(text.as_slice()))
 }
 
-/// The values of the operands.
-fn all_spelled(
-    alloc: Global,
-    operands: &[Text],
-) -> Result<Result<Items<i128>, AsmCause>, AllocError>
-    ensures { IfOk result (λ r. r ≡ all_spelled operands.now) }
+/// The values of texts, if each spells a number.
+fn values(alloc: Global, texts: &[Text]) -> Result<Items<i128>, LineError>
+    ensures { Answers result (if list_all is_spelled texts.now
+        then Ok (map nearest_value texts.now) else Err AsmCause.Number) }
 {
-    let mut numbers = Items::new(alloc);
-    for operand in operands {
-        match spelled(operand.as_slice()) {
-            Ok(number) => numbers.push(number)?,
-            Err(cause) => return Ok(Err(cause)),
-        }
+    let mut values = Items::new(alloc);
+    for text in texts {
+        values.push(number_of(text.as_slice()).ok_or(AsmCause::Number)?)?;
     }
-    Ok(Ok(numbers))
+    Ok(values)
 }
 
-/// The numbers of a directive that takes one or more.
-pub fn numbers(
-    alloc: Global,
-    operands: &[Text],
-) -> Result<Result<Items<i128>, AsmCause>, AllocError>
-    ensures { IfOk result (λ r. r ≡ numbers operands.now) }
+/// The values of one number or more.
+pub fn numbers(alloc: Global, operands: &[Text]) -> Result<Items<i128>, LineError>
+    ensures { Answers result (unless_refused Numbers operands.now (map nearest_value operands.now)) }
 {
     if operands.is_empty() || !all_numbers(operands) {
-        return Ok(Err(AsmCause::Operand));
+        return Err(LineError::Refused(AsmCause::Operand));
     }
-    all_spelled(alloc, operands)
+    values(alloc, operands)
+}
+
+/// The bytes of one quoted text.
+pub fn bytes(alloc: Global, operands: &[Text]) -> Result<Items<u8>, LineError>
+    ensures { Answers result (unless_refused Quoted operands.now (bytes_in operands.now)) }
+{
+    let [text] = operands else {
+        return Err(LineError::Refused(AsmCause::Operand));
+    };
+    Ok(quoted(alloc, text.as_slice())?.ok_or(AsmCause::Operand)?)
 }

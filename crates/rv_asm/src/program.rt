@@ -1,29 +1,19 @@
-ghost use Rattle.std.specs.Prelude.{◌≡◌, ◌≢◌, ◌∷◌, ◌<◌, ◌≤◌, List, ℕ, Ok, Err, IfOk, OnOk, MatchResult, MatchOption, length};
+ghost use Rattle.std.specs.Prelude.{◌≡◌, ◌≢◌, List, ℕ, Ok, Err, IfOk, OnOk, MatchResult};
+ghost use Rattle.asm_text.specs.Text.{lines};
 ghost use Rattle.rv_asm.specs.declared.AsmError.TheVariants.{Memory};
-ghost use Rattle.rv_asm.specs.Text.{lines, lines_left};
 ghost use Rattle.rv_asm.specs.Labels.{defined, otherwise, own_definition};
-ghost use Rattle.rv_asm.specs.Encoding.{base, HasPlaced};
+ghost use Rattle.rv_asm.specs.Encoding.{base};
+ghost use Rattle.rv_asm.specs.Words.{HasPlaced};
 ghost use Rattle.rv_asm.specs.Line.{read, line_end, line_bytes};
-ghost use Rattle.rv_asm.specs.Program.{definition_in, outcomes_in, gathered};
+ghost use Rattle.rv_asm.specs.Program.{definition_of, outcomes_in, gathered};
 
+use crate::AsmError;
 use crate::encoding::BASE;
 use crate::labels::Labels;
 use crate::line::read;
-use crate::text::{before, behind, first_place};
-use crate::{AsmCause, AsmError};
+use crate::refusal::LineError;
+use asm_text::first_line;
 use std::alloc::{AllocError, Global};
-
-/// The first line of the text, and what stands behind its line feed.
-fn split_line(text: &[u8]) -> (&[u8], Option<&[u8]>)
-    ensures lines { lines text.now ≡ result.0.now ∷ lines_left result.1 }
-    ensures shorter { MatchOption result.1 (length result.0.now ≤ length text.now) (λ rest. length rest.now < length text.now) }
-{
-    let end = first_place(text, b'\n');
-    if end == text.len() {
-        return (text, None);
-    }
-    (before(text, end), Some(behind(text, end)))
-}
 
 /// Adds the definition of the line's label, and gives the address behind the line.
 fn define_line<'a>(
@@ -44,14 +34,14 @@ fn define_line<'a>(
 
 /// The first definition of each label of the text.
 pub fn define_labels<'a>(alloc: Global, text: &'a [u8]) -> Result<Labels<'a>, AllocError>
-    ensures { IfOk result (λ labels. (name : List ℕ) → defined labels name ≡ definition_in 1 base (lines text.now) name) }
+    ensures { IfOk result (λ labels. (name : List ℕ) → defined labels name ≡ definition_of text.now name) }
 {
     let mut labels = Labels::new(alloc);
     let mut address = BASE;
     let mut number = 1;
     let mut rest = Some(text);
     while let Some(text) = rest {
-        let (line, more) = split_line(text);
+        let (line, more) = first_line(text);
         address = define_line(alloc, line, number, address, &mut labels)?;
         number += 1;
         rest = more;
@@ -67,15 +57,13 @@ fn append_line<'a>(
     address: u64,
     labels: &Labels<'a>,
     bytes: &mut Vec<u8>,
-) -> Result<Result<u64, AsmCause>, AllocError>
-    ensures { IfOk result (HasPlaced (line_bytes (defined labels.now) number address (read line.now))
-        (line_end address (read line.now)) bytes.old.items bytes.new.items) }
+) -> Result<u64, LineError>
+    ensures { HasPlaced (line_bytes (defined labels.now) number address (read line.now))
+        (line_end address (read line.now)) bytes.old.items bytes.new.items result }
 {
     let said = read(alloc, line)?;
-    match said.append(labels, number, address, bytes)? {
-        Ok(()) => Ok(Ok(said.end(address))),
-        Err(cause) => Ok(Err(cause)),
-    }
+    said.append(labels, number, address, bytes)?;
+    Ok(said.end(address))
 }
 
 /// The bytes of the text under its labels, or the first line that is refused.
@@ -89,11 +77,11 @@ pub fn bytes_of<'a>(alloc: Global, text: &'a [u8], labels: &Labels<'a>) -> Resul
     let mut number = 1;
     let mut rest = Some(text);
     while let Some(text) = rest {
-        let (line, more) = split_line(text);
-        match append_line(alloc, line, number, address, labels, &mut bytes)? {
-            Ok(next) => address = next,
-            Err(cause) => return Err(AsmError::Line(number, cause)),
-        }
+        let (line, more) = first_line(text);
+        address = match append_line(alloc, line, number, address, labels, &mut bytes) {
+            Ok(next) => next,
+            Err(error) => return Err(error.at(number)),
+        };
         number += 1;
         rest = more;
     }

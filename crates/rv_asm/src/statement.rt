@@ -1,15 +1,28 @@
-ghost use Rattle.std.specs.Prelude.{◌≡◌, IfOk};
-ghost use Rattle.rv_asm.specs.Statement.{on_registers, on_immediate, upper, load, store, branch, jump, alone, instruction, load_number, load_address, copy, linked_jump, pseudo_statement, zeros, align, ascii, sized, directive_statement, statement_of};
+ghost use Rattle.std.specs.Prelude.{◌≡◌};
+ghost use Rattle.std.specs.Option.{ok_or};
+ghost use Rattle.rv_asm.specs.Operands.{Each, unless_refused};
+ghost use Rattle.rv_asm.specs.Answers.{Answers, nearest_statement};
+ghost use Rattle.rv_asm.specs.Mnemonics.{shape_of};
+ghost use Rattle.rv_asm.specs.Statement.{word_named, unknown, kinds_by, pseudo_kinds, directive_syntax, syntax_of, statement_of};
 
 use crate::AsmCause;
 use crate::mnemonics::{
     Directive, Pseudo, Shape, directive_named, op_named, pseudo_named, shape_of,
 };
-use crate::operands::{Place, address, immediate, name, number, numbers, register};
-use crate::text::{Text, quoted};
+use crate::operands::{Fields, Kind, bytes, numbers, read};
+use crate::refusal::LineError;
+use asm_text::Text;
 use bas_items::Items;
-use rv_core::{Instr, Op};
-use std::alloc::{AllocError, Global};
+use rv_core::Op;
+use std::alloc::Global;
+
+/// What the first word of a statement names.
+#[derive(Clone, Copy)]
+pub enum Word {
+    Instruction(Op),
+    Pseudo(Pseudo),
+    Directive(Directive),
+}
 
 /// The size of a number in memory.
 #[derive(Clone, Copy)]
@@ -22,8 +35,8 @@ pub enum Width {
 /// What a line puts into the program.
 #[derive(Drop)]
 pub enum Statement<'a> {
-    /// An instruction that names no label.
-    Plain(Instr),
+    /// An instruction that names no label, with its registers rd, rs1 and rs2 and its immediate.
+    Plain(Op, u8, u8, u8, i128),
     /// LUI or AUIPC: the instruction, its destination and the number of a page.
     Upper(Op, u8, i128),
     /// A branch: the instruction, its two sources and the label.
@@ -44,298 +57,130 @@ pub enum Statement<'a> {
     Align(i128),
 }
 
-/// An instruction with these fields.
-pub fn plain(op: Op, rd: u8, rs1: u8, rs2: u8, imm: i64) -> Instr
-    ensures { result ≡ record { op = op; rd = rd; rs1 = rs1; rs2 = rs2; imm = imm } }
+/// What a first word names.
+#[tactic(auto, unfolding(crate::specs::Statement::word_named))]
+pub fn word_named(word: &[u8]) -> Result<Word, AsmCause>
+    ensures { result ≡ ok_or (word_named word.now) (unknown word.now) }
 {
-    Instr {
-        op,
+    if word.starts_with(b".") {
+        let directive = directive_named(word).ok_or(AsmCause::Directive)?;
+        return Ok(Word::Directive(directive));
+    }
+    if let Some(op) = op_named(word) {
+        return Ok(Word::Instruction(op));
+    }
+    let pseudo = pseudo_named(word).ok_or(AsmCause::Mnemonic)?;
+    Ok(Word::Pseudo(pseudo))
+}
+
+/// The kinds of the operands of an instruction.
+fn kinds_by(shape: Shape) -> &'static [Kind]
+    ensures { result.now ≡ kinds_by shape }
+{
+    match shape {
+        Shape::Registers => &[Kind::Rd, Kind::Rs1, Kind::Rs2],
+        Shape::Immediate => &[Kind::Rd, Kind::Rs1, Kind::Number],
+        Shape::Upper => &[Kind::Rd, Kind::Number],
+        Shape::Load => &[Kind::Rd, Kind::Address],
+        Shape::Store => &[Kind::Rs2, Kind::Address],
+        Shape::Branch => &[Kind::Rs1, Kind::Rs2, Kind::Label],
+        Shape::Jump => &[Kind::Rd, Kind::Label],
+        Shape::Alone => &[],
+    }
+}
+
+/// The kinds of the operands of what stands for instructions.
+fn pseudo_kinds(pseudo: Pseudo) -> &'static [Kind]
+    ensures { result.now ≡ pseudo_kinds pseudo }
+{
+    match pseudo {
+        Pseudo::Li => &[Kind::Rd, Kind::Number],
+        Pseudo::La => &[Kind::Rd, Kind::Label],
+        Pseudo::Mv => &[Kind::Rd, Kind::Rs1],
+        Pseudo::J | Pseudo::Call => &[Kind::Label],
+        Pseudo::Ret | Pseudo::Nop => &[],
+    }
+}
+
+/// An instruction with operands.
+fn instruction<'a>(op: Op, operands: &[Text<'a>]) -> Result<Statement<'a>, AsmCause>
+    ensures { result ≡ unless_refused (Each (kinds_by (shape_of op))) operands.now
+        (nearest_statement (statement_of (Word.Instruction op) operands.now)) }
+{
+    let shape = shape_of(op);
+    let (fields, n) = read(kinds_by(shape), operands)?;
+    let Fields {
         rd,
         rs1,
         rs2,
-        imm,
+        number: _,
+        label,
+    } = fields;
+    match shape {
+        Shape::Upper => Ok(Statement::Upper(op, rd, n)),
+        Shape::Branch => Ok(Statement::Branch(op, rs1, rs2, label)),
+        Shape::Jump => Ok(Statement::Jump(rd, label)),
+        Shape::Registers | Shape::Immediate | Shape::Load | Shape::Store | Shape::Alone => {
+            Ok(Statement::Plain(op, rd, rs1, rs2, n))
+        }
     }
 }
 
-/// An instruction on registers.
-#[tactic(auto, unfolding(crate::specs::Statement::on_registers))]
-fn on_registers<'a>(op: Op, operands: &[Text<'a>]) -> Result<Statement<'a>, AsmCause>
-    ensures { result ≡ on_registers op operands.now }
-{
-    let [rd, rs1, rs2] = operands else {
-        return Err(AsmCause::Operand);
-    };
-    let rd = register(rd)?;
-    let rs1 = register(rs1)?;
-    let rs2 = register(rs2)?;
-    Ok(Statement::Plain(plain(op, rd, rs1, rs2, 0)))
-}
-
-/// An instruction on a register and a number.
-#[tactic(auto, unfolding(crate::specs::Statement::on_immediate))]
-fn on_immediate<'a>(op: Op, operands: &[Text<'a>]) -> Result<Statement<'a>, AsmCause>
-    ensures { result ≡ on_immediate op operands.now }
-{
-    let [rd, rs1, n] = operands else {
-        return Err(AsmCause::Operand);
-    };
-    let rd = register(rd)?;
-    let rs1 = register(rs1)?;
-    let n = number(n)?;
-    Ok(Statement::Plain(plain(op, rd, rs1, 0, immediate(n))))
-}
-
-/// LUI or AUIPC.
-#[tactic(auto, unfolding(crate::specs::Statement::upper))]
-fn upper<'a>(op: Op, operands: &[Text<'a>]) -> Result<Statement<'a>, AsmCause>
-    ensures { result ≡ upper op operands.now }
-{
-    let [rd, n] = operands else {
-        return Err(AsmCause::Operand);
-    };
-    let rd = register(rd)?;
-    let n = number(n)?;
-    Ok(Statement::Upper(op, rd, n))
-}
-
-/// A load or JALR.
-#[tactic(auto, unfolding(crate::specs::Statement::load))]
-fn load<'a>(op: Op, operands: &[Text<'a>]) -> Result<Statement<'a>, AsmCause>
-    ensures { result ≡ load op operands.now }
-{
-    let [rd, place] = operands else {
-        return Err(AsmCause::Operand);
-    };
-    let rd = register(rd)?;
-    let Place { offset, base } = address(place)?;
-    Ok(Statement::Plain(plain(op, rd, base, 0, immediate(offset))))
-}
-
-/// A store.
-#[tactic(auto, unfolding(crate::specs::Statement::store))]
-fn store<'a>(op: Op, operands: &[Text<'a>]) -> Result<Statement<'a>, AsmCause>
-    ensures { result ≡ store op operands.now }
-{
-    let [rs2, place] = operands else {
-        return Err(AsmCause::Operand);
-    };
-    let rs2 = register(rs2)?;
-    let Place { offset, base } = address(place)?;
-    Ok(Statement::Plain(plain(op, 0, base, rs2, immediate(offset))))
-}
-
-/// A branch.
-#[tactic(auto, unfolding(crate::specs::Statement::branch))]
-fn branch<'a>(op: Op, operands: &[Text<'a>]) -> Result<Statement<'a>, AsmCause>
-    ensures { result ≡ branch op operands.now }
-{
-    let [rs1, rs2, label] = operands else {
-        return Err(AsmCause::Operand);
-    };
-    let rs1 = register(rs1)?;
-    let rs2 = register(rs2)?;
-    let label = name(label)?;
-    Ok(Statement::Branch(op, rs1, rs2, label))
-}
-
-/// JAL.
-#[tactic(auto, unfolding(crate::specs::Statement::jump))]
-fn jump<'a>(operands: &[Text<'a>]) -> Result<Statement<'a>, AsmCause>
-    ensures { result ≡ jump operands.now }
-{
-    let [rd, label] = operands else {
-        return Err(AsmCause::Operand);
-    };
-    let rd = register(rd)?;
-    let label = name(label)?;
-    Ok(Statement::Jump(rd, label))
-}
-
-/// The instruction without operands.
-#[tactic(auto, unfolding(crate::specs::Statement::alone))]
-fn alone<'a>(instr: Instr, operands: &[Text<'a>]) -> Result<Statement<'a>, AsmCause>
-    ensures { result ≡ alone instr operands.now }
-{
-    if !operands.is_empty() {
-        return Err(AsmCause::Operand);
-    }
-    Ok(Statement::Plain(instr))
-}
-
-/// An instruction by its name.
-#[tactic(auto, unfolding(crate::specs::Statement::instruction))]
-fn instruction<'a>(op: Op, operands: &[Text<'a>]) -> Result<Statement<'a>, AsmCause>
-    ensures { result ≡ instruction op operands.now }
-{
-    match shape_of(op) {
-        Shape::Registers => on_registers(op, operands),
-        Shape::Immediate => on_immediate(op, operands),
-        Shape::Upper => upper(op, operands),
-        Shape::Load => load(op, operands),
-        Shape::Store => store(op, operands),
-        Shape::Branch => branch(op, operands),
-        Shape::Jump => jump(operands),
-        Shape::Alone => alone(plain(op, 0, 0, 0, 0), operands),
-    }
-}
-
-/// `li`: the register gets the number.
-#[tactic(auto, unfolding(crate::specs::Statement::load_number))]
-fn load_number<'a>(operands: &[Text<'a>]) -> Result<Statement<'a>, AsmCause>
-    ensures { result ≡ load_number operands.now }
-{
-    let [rd, n] = operands else {
-        return Err(AsmCause::Operand);
-    };
-    let rd = register(rd)?;
-    let n = number(n)?;
-    Ok(Statement::LoadNumber(rd, n))
-}
-
-/// `la`: the register gets the label's address.
-#[tactic(auto, unfolding(crate::specs::Statement::load_address))]
-fn load_address<'a>(operands: &[Text<'a>]) -> Result<Statement<'a>, AsmCause>
-    ensures { result ≡ load_address operands.now }
-{
-    let [rd, label] = operands else {
-        return Err(AsmCause::Operand);
-    };
-    let rd = register(rd)?;
-    let label = name(label)?;
-    Ok(Statement::LoadAddress(rd, label))
-}
-
-/// `mv`: the register gets what another holds.
-#[tactic(auto, unfolding(crate::specs::Statement::copy))]
-fn copy<'a>(operands: &[Text<'a>]) -> Result<Statement<'a>, AsmCause>
-    ensures { result ≡ copy operands.now }
-{
-    let [rd, rs] = operands else {
-        return Err(AsmCause::Operand);
-    };
-    let rd = register(rd)?;
-    let rs = register(rs)?;
-    Ok(Statement::Plain(plain(Op::Addi, rd, rs, 0, 0)))
-}
-
-/// A jump that leaves the address behind it in the register `link`.
-#[tactic(auto, unfolding(crate::specs::Statement::linked_jump))]
-fn linked_jump<'a>(link: u8, operands: &[Text<'a>]) -> Result<Statement<'a>, AsmCause>
-    ensures { result ≡ linked_jump link operands.now }
-{
-    let [label] = operands else {
-        return Err(AsmCause::Operand);
-    };
-    let label = name(label)?;
-    Ok(Statement::Jump(link, label))
-}
-
-/// What stands for instructions, by its name.
+/// What stands for instructions, with operands.
 fn pseudo<'a>(pseudo: Pseudo, operands: &[Text<'a>]) -> Result<Statement<'a>, AsmCause>
-    ensures { result ≡ pseudo_statement pseudo operands.now }
+    ensures { result ≡ unless_refused (Each (pseudo_kinds pseudo)) operands.now
+        (nearest_statement (statement_of (Word.Pseudo pseudo) operands.now)) }
 {
+    let (fields, n) = read(pseudo_kinds(pseudo), operands)?;
+    let Fields {
+        rd,
+        rs1,
+        rs2: _,
+        number: _,
+        label,
+    } = fields;
     match pseudo {
-        Pseudo::Li => load_number(operands),
-        Pseudo::La => load_address(operands),
-        Pseudo::Mv => copy(operands),
-        Pseudo::J => linked_jump(0, operands),
-        Pseudo::Call => linked_jump(1, operands),
-        Pseudo::Ret => alone(plain(Op::Jalr, 0, 1, 0, 0), operands),
-        Pseudo::Nop => alone(plain(Op::Addi, 0, 0, 0, 0), operands),
+        Pseudo::Li => Ok(Statement::LoadNumber(rd, n)),
+        Pseudo::La => Ok(Statement::LoadAddress(rd, label)),
+        Pseudo::Mv => Ok(Statement::Plain(Op::Addi, rd, rs1, 0, 0)),
+        Pseudo::J => Ok(Statement::Jump(0, label)),
+        Pseudo::Call => Ok(Statement::Jump(1, label)),
+        Pseudo::Ret => Ok(Statement::Plain(Op::Jalr, 0, 1, 0, 0)),
+        Pseudo::Nop => Ok(Statement::Plain(Op::Addi, 0, 0, 0, 0)),
     }
 }
 
-/// `.zero`: so many zeros.
-#[tactic(auto, unfolding(crate::specs::Statement::zeros))]
-fn zeros<'a>(operands: &[Text<'a>]) -> Result<Statement<'a>, AsmCause>
-    ensures { result ≡ zeros operands.now }
-{
-    let [n] = operands else {
-        return Err(AsmCause::Operand);
-    };
-    Ok(Statement::Zeros(number(n)?))
-}
-
-/// `.align`: zeros up to a multiple.
-#[tactic(auto, unfolding(crate::specs::Statement::align))]
-fn align<'a>(operands: &[Text<'a>]) -> Result<Statement<'a>, AsmCause>
-    ensures { result ≡ align operands.now }
-{
-    let [n] = operands else {
-        return Err(AsmCause::Operand);
-    };
-    Ok(Statement::Align(number(n)?))
-}
-
-/// `.ascii`: the bytes of a quoted text.
-#[tactic(auto, unfolding(crate::specs::Statement::ascii))]
-fn ascii<'a>(
-    alloc: Global,
-    operands: &[Text<'a>],
-) -> Result<Result<Statement<'a>, AsmCause>, AllocError>
-    ensures { IfOk result (λ r. r ≡ ascii operands.now) }
-{
-    let [text] = operands else {
-        return Ok(Err(AsmCause::Operand));
-    };
-    match quoted(alloc, text.as_slice())? {
-        Some(bytes) => Ok(Ok(Statement::Bytes(bytes))),
-        None => Ok(Err(AsmCause::Operand)),
-    }
-}
-
-/// `.byte`, `.word` or `.dword`: numbers.
-fn sized<'a>(
-    alloc: Global,
-    width: Width,
-    operands: &[Text<'a>],
-) -> Result<Result<Statement<'a>, AsmCause>, AllocError>
-    ensures { IfOk result (λ r. r ≡ sized width operands.now) }
-{
-    match numbers(alloc, operands)? {
-        Ok(numbers) => Ok(Ok(Statement::Numbers(width, numbers))),
-        Err(cause) => Ok(Err(cause)),
-    }
-}
-
-/// A directive by its name.
+/// A directive with operands.
 fn directive<'a>(
     alloc: Global,
     directive: Directive,
     operands: &[Text<'a>],
-) -> Result<Result<Statement<'a>, AsmCause>, AllocError>
-    ensures { IfOk result (λ r. r ≡ directive_statement directive operands.now) }
+) -> Result<Statement<'a>, LineError>
+    ensures { Answers result (unless_refused (directive_syntax directive) operands.now
+        (nearest_statement (statement_of (Word.Directive directive) operands.now))) }
 {
     match directive {
-        Directive::Ascii => ascii(alloc, operands),
-        Directive::Byte => sized(alloc, Width::Byte, operands),
-        Directive::Word => sized(alloc, Width::Word, operands),
-        Directive::Dword => sized(alloc, Width::Dword, operands),
-        Directive::Zero => Ok(zeros(operands)),
-        Directive::Align => Ok(align(operands)),
+        Directive::Ascii => Ok(Statement::Bytes(bytes(alloc, operands)?)),
+        Directive::Byte => Ok(Statement::Numbers(Width::Byte, numbers(alloc, operands)?)),
+        Directive::Word => Ok(Statement::Numbers(Width::Word, numbers(alloc, operands)?)),
+        Directive::Dword => Ok(Statement::Numbers(Width::Dword, numbers(alloc, operands)?)),
+        Directive::Zero => Ok(Statement::Zeros(read(&[Kind::Number], operands)?.1)),
+        Directive::Align => Ok(Statement::Align(read(&[Kind::Number], operands)?.1)),
     }
 }
 
-/// The statement of a word and its operands, or the first cause for which it is refused by itself.
-#[tactic(auto, unfolding(crate::specs::Statement::statement_of))]
+/// The statement of a word with operands, or the cause for which these are refused.
 pub fn statement_of<'a>(
     alloc: Global,
-    word: &[u8],
+    word: Word,
     operands: &[Text<'a>],
-) -> Result<Result<Statement<'a>, AsmCause>, AllocError>
-    ensures { IfOk result (λ r. r ≡ statement_of word.now operands.now) }
+) -> Result<Statement<'a>, LineError>
+    ensures { Answers result (unless_refused (syntax_of word) operands.now
+        (nearest_statement (statement_of word operands.now))) }
 {
-    if word.starts_with(b".") {
-        return match directive_named(word) {
-            Some(named) => directive(alloc, named, operands),
-            None => Ok(Err(AsmCause::Directive)),
-        };
-    }
-    if let Some(op) = op_named(word) {
-        return Ok(instruction(op, operands));
-    }
-    match pseudo_named(word) {
-        Some(named) => Ok(pseudo(named, operands)),
-        None => Ok(Err(AsmCause::Mnemonic)),
+    match word {
+        Word::Instruction(op) => Ok(instruction(op, operands)?),
+        Word::Pseudo(named) => Ok(pseudo(named, operands)?),
+        Word::Directive(named) => directive(alloc, named, operands),
     }
 }

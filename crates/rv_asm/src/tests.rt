@@ -1,31 +1,13 @@
 use super::*;
 use std::test::Fail;
 
-/// The bytes behind the two headers.
-fn program(alloc: Global, text: &str) -> Result<Items<u8>, AsmError> {
-    let file = assemble(alloc, text.as_bytes())?;
-    match file.as_slice().get(120..) {
-        Some(bytes) => Ok(Items::from_slice(alloc, bytes)?),
-        None => Ok(Items::new(alloc)),
-    }
-}
-
 #[test]
-fn assembles_a_greeting(rt: HostRuntime) -> Result<(), Fail> {
-    let text =
-        "li a0, 1\nla a1, msg\nli a2, 3\nli a7, 64\necall\nli a0, 0\nli a7, 93\necall\nmsg: .ascii \"hi\\n\"\n";
-    let file = assemble(rt.alloc(), text.as_bytes())?;
-    assert_eq!(rt; file.len(), 159);
-    let expected =
-        b"\x13\x05\x10\x00\x97\x05\x00\x00\x93\x85\x05\x02\x13\x06\x30\x00\x93\x08\x00\x04\x73\x00\x00\x00\x13\x05\x00\x00\x93\x08\xd0\x05\x73\x00\x00\x00hi\n";
-    let bytes = program(rt.alloc(), text)?;
-    assert_eq!(rt; bytes.as_slice(), expected.as_slice());
-    Ok(())
-}
-
-#[test]
-fn encodes_instructions(rt: HostRuntime) -> Result<(), Fail> {
-    let cases: [(&str, &[u8]); 19] = [
+fn assembles(rt: HostRuntime) -> Result<(), Fail> {
+    let cases: [(&str, &[u8]); 48] = [
+        (
+            "li a0, 1\nla a1, msg\nli a2, 3\nli a7, 64\necall\nli a0, 0\nli a7, 93\necall\nmsg: .ascii \"hi\\n\"\n",
+            b"\x13\x05\x10\x00\x97\x05\x00\x00\x93\x85\x05\x02\x13\x06\x30\x00\x93\x08\x00\x04\x73\x00\x00\x00\x13\x05\x00\x00\x93\x08\xd0\x05\x73\x00\x00\x00hi\n",
+        ),
         ("lui a0, 1048575", b"\x37\xf5\xff\xff"),
         ("auipc t0, 0x12", b"\x97\x22\x01\x00"),
         ("l: jal ra, l", b"\xef\x00\x00\x00"),
@@ -45,17 +27,6 @@ fn encodes_instructions(rt: HostRuntime) -> Result<(), Fail> {
         ("fence", b"\x0f\x00\x00\x00"),
         ("ebreak", b"\x73\x00\x10\x00"),
         ("lw a0, 0(s10)", b"\x03\x25\x0d\x00"),
-    ];
-    for (text, expected) in cases {
-        let bytes = program(rt.alloc(), text)?;
-        assert_eq!(rt; bytes.as_slice(), expected, "at {text:?}");
-    }
-    Ok(())
-}
-
-#[test]
-fn encodes_pseudo_instructions(rt: HostRuntime) -> Result<(), Fail> {
-    let cases: [(&str, &[u8]); 15] = [
         ("slli a0, a0, 63", b"\x13\x15\xf5\x03"),
         ("ecall", b"\x73\x00\x00\x00"),
         ("li a0, -2048", b"\x13\x05\x00\x80"),
@@ -74,17 +45,6 @@ fn encodes_pseudo_instructions(rt: HostRuntime) -> Result<(), Fail> {
         ("nop", b"\x13\x00\x00\x00"),
         ("x0: j x0", b"\x6f\x00\x00\x00"),
         (" \tl: \tadd \ta0 ,a1\t, a2 # ecall", b"\x33\x85\xc5\x00"),
-    ];
-    for (text, expected) in cases {
-        let bytes = program(rt.alloc(), text)?;
-        assert_eq!(rt; bytes.as_slice(), expected, "at {text:?}");
-    }
-    Ok(())
-}
-
-#[test]
-fn encodes_directives_and_blanks(rt: HostRuntime) -> Result<(), Fail> {
-    let cases: [(&str, &[u8]); 12] = [
         ("fence.i", b"\x0f\x10\x00\x00"),
         (
             ".ascii \"a#, \\n\\t\\0\\\\\\\" :\"",
@@ -109,138 +69,109 @@ fn encodes_directives_and_blanks(rt: HostRuntime) -> Result<(), Fail> {
         (".ascii \"\"", b""),
         (".word 1 # \"", b"\x01\x00\x00\x00"),
         ("# no statement\n\n_x9:\n.l9:\t", b""),
+        (".ascii \"\u{e9}\" # \u{e8}", b"\xc3\xa9"),
     ];
     for (text, expected) in cases {
-        let bytes = program(rt.alloc(), text)?;
-        assert_eq!(rt; bytes.as_slice(), expected, "at {text:?}");
+        let file = assemble(rt.alloc(), text.as_bytes())?;
+        assert_eq!(rt; file.as_slice().get(120..), Some(expected), "at {text:?}");
     }
     Ok(())
 }
 
 #[test]
-fn refuses_texts_and_names(rt: HostRuntime) -> Result<(), Fail> {
-    let cases = [
-        (".ascii \"a", 1, AsmCause::Text),
-        (".ascii \"\\q\"", 1, AsmCause::Text),
-        (".ascii \"a\" b", 1, AsmCause::Text),
-        ("1x: nop", 1, AsmCause::Text),
-        (": nop", 1, AsmCause::Text),
-        ("a b: nop", 1, AsmCause::Text),
-        ("add a\"b, c", 1, AsmCause::Text),
-        ("foo", 1, AsmCause::Mnemonic),
-        (".foo", 1, AsmCause::Directive),
-        ("\"a b\"", 1, AsmCause::Mnemonic),
-        ("l: foo\nl: .foo", 1, AsmCause::Mnemonic),
-        ("add a0, a1, \"x", 1, AsmCause::Text),
-        ("ADD a0, a1, a2", 1, AsmCause::Mnemonic),
-        (".ascii\"a\"", 1, AsmCause::Directive),
-        ("j far\nfar: .ascii \"x", 2, AsmCause::Text),
-        ("j m\nm: .foo", 2, AsmCause::Directive),
-        ("foo: bar: nop", 1, AsmCause::Mnemonic),
-        ("l : nop", 1, AsmCause::Text),
-    ];
-    for (text, line, cause) in cases {
-        let refusal = program(rt.alloc(), text).err();
-        assert_eq!(rt; refusal, Some(AsmError::Line(line, cause)), "at {text:?}");
-    }
-    Ok(())
-}
-
-#[test]
-fn refuses_operands(rt: HostRuntime) -> Result<(), Fail> {
-    let cases = [
-        ("add a0, a1", 1, AsmCause::Operand),
-        ("add a0, a1, 1", 1, AsmCause::Operand),
-        ("ecall 1", 1, AsmCause::Operand),
-        ("addi a0, a1, x", 1, AsmCause::Operand),
-        ("addi a0, a1, 0x", 1, AsmCause::Number),
-        ("lw a0, 4", 1, AsmCause::Operand),
-        ("lw a0, 4( sp)", 1, AsmCause::Operand),
-        ("lw a0, 4 (sp)", 1, AsmCause::Number),
-        ("lw a0, (sp)", 1, AsmCause::Operand),
-        ("lw a0, 4(sp", 1, AsmCause::Operand),
-        ("lw a0, 4(q)", 1, AsmCause::Operand),
-        ("addi 1, 0x, a", 1, AsmCause::Operand),
-        ("j 1", 1, AsmCause::Operand),
-        ("j a b", 1, AsmCause::Operand),
-        (".byte", 1, AsmCause::Operand),
-        (".byte 1x, foo", 1, AsmCause::Operand),
-        (".byte 1x", 1, AsmCause::Number),
-        (".byte ,", 1, AsmCause::Operand),
-        ("fp: .byte -0x1", 1, AsmCause::Number),
-        ("add x00, x1, x2", 1, AsmCause::Operand),
-        ("addi a0, a1, --1", 1, AsmCause::Number),
-        ("mv a0", 1, AsmCause::Operand),
-        ("ret 1", 1, AsmCause::Operand),
-        (".ascii hi", 1, AsmCause::Operand),
-        (".ascii \"a\", \"b\"", 1, AsmCause::Operand),
-        (".align 1, 2", 1, AsmCause::Operand),
-        ("add a0, a1, a2,", 1, AsmCause::Operand),
-        ("addi a0, a1, 5\r", 1, AsmCause::Number),
-    ];
-    for (text, line, cause) in cases {
-        let refusal = program(rt.alloc(), text).err();
-        assert_eq!(rt; refusal, Some(AsmError::Line(line, cause)), "at {text:?}");
-    }
-    Ok(())
-}
-
-#[test]
-fn refuses_labels_and_values(rt: HostRuntime) -> Result<(), Fail> {
-    let cases = [
-        ("l:\nl: nop", 2, AsmCause::Twice),
-        ("j m", 1, AsmCause::Label),
-        ("beq a0, a1, m", 1, AsmCause::Label),
-        ("la a0, m", 1, AsmCause::Label),
-        ("addi a0, a1, 2048", 1, AsmCause::Range),
-        ("addi a0, a1, -2049", 1, AsmCause::Range),
-        ("ld a0, 2048(sp)", 1, AsmCause::Range),
-        ("slli a0, a0, 64", 1, AsmCause::Range),
-        ("slliw a0, a0, 32", 1, AsmCause::Range),
-        ("srli a0, a0, -1", 1, AsmCause::Range),
-        ("lui a0, 1048576", 1, AsmCause::Range),
-        ("lui a0, -1", 1, AsmCause::Range),
-        ("li a0, 2147483648", 1, AsmCause::Range),
-        ("li a0, -2147483649", 1, AsmCause::Range),
-        (".byte 256", 1, AsmCause::Range),
-        (".byte -129", 1, AsmCause::Range),
-        (".word 4294967296", 1, AsmCause::Range),
-        (".dword 18446744073709551616", 1, AsmCause::Range),
-        (".dword -9223372036854775809", 1, AsmCause::Range),
-        (".zero -1", 1, AsmCause::Range),
-        (".align 13", 1, AsmCause::Range),
-        (".align -1", 1, AsmCause::Range),
-        (".zero 1048577", 1, AsmCause::Big),
-        (".zero 1048576\nnop", 2, AsmCause::Big),
-        ("j m\n.zero 1048576\nm:", 1, AsmCause::Range),
-        ("beq a0, a1, m\n.zero 4092\nm:", 1, AsmCause::Range),
-        ("j m\n.byte 1\nm:", 1, AsmCause::Range),
-        (".zero 99999999999999999999999999", 1, AsmCause::Big),
-        ("addi a0, a1, 99999999999999999999999", 1, AsmCause::Range),
-        ("j far\nnop\nl: foo\nnop\nnop", 1, AsmCause::Label),
-        (".zero 1048577\nfoo", 1, AsmCause::Big),
-        ("l:\nl: .byte 256", 2, AsmCause::Twice),
-        ("l:\nl: j m", 2, AsmCause::Twice),
-        ("j m\nm : nop", 1, AsmCause::Label),
-        (".zero 1048576\nl:\n.ascii \"\"\n.byte 1", 4, AsmCause::Big),
+fn refuses(rt: HostRuntime) -> Result<(), Fail> {
+    let cases: [(&[u8], u64, AsmCause); 83] = [
+        (b".ascii \"a", 1, AsmCause::Text),
+        (b".ascii \"\\q\"", 1, AsmCause::Text),
+        (b".ascii \"a\" b", 1, AsmCause::Text),
+        (b"1x: nop", 1, AsmCause::Text),
+        (b": nop", 1, AsmCause::Text),
+        (b"a b: nop", 1, AsmCause::Text),
+        (b"add a\"b, c", 1, AsmCause::Text),
+        (b"foo", 1, AsmCause::Mnemonic),
+        (b".foo", 1, AsmCause::Directive),
+        (b"\"a b\"", 1, AsmCause::Mnemonic),
+        (b"l: foo\nl: .foo", 1, AsmCause::Mnemonic),
+        (b"add a0, a1, \"x", 1, AsmCause::Text),
+        (b"ADD a0, a1, a2", 1, AsmCause::Mnemonic),
+        (b".ascii\"a\"", 1, AsmCause::Directive),
+        (b"j far\nfar: .ascii \"x", 2, AsmCause::Text),
+        (b"j m\nm: .foo", 2, AsmCause::Directive),
+        (b"foo: bar: nop", 1, AsmCause::Mnemonic),
+        (b"l : nop", 1, AsmCause::Text),
+        (b"add a0, a1", 1, AsmCause::Operand),
+        (b"add a0, a1, 1", 1, AsmCause::Operand),
+        (b"ecall 1", 1, AsmCause::Operand),
+        (b"addi a0, a1, x", 1, AsmCause::Operand),
+        (b"addi a0, a1, 0x", 1, AsmCause::Number),
+        (b"lw a0, 4", 1, AsmCause::Operand),
+        (b"lw a0, 4( sp)", 1, AsmCause::Operand),
+        (b"lw a0, 4 (sp)", 1, AsmCause::Number),
+        (b"lw a0, (sp)", 1, AsmCause::Operand),
+        (b"lw a0, 4(sp", 1, AsmCause::Operand),
+        (b"lw a0, 4(q)", 1, AsmCause::Operand),
+        (b"addi 1, 0x, a", 1, AsmCause::Operand),
+        (b"j 1", 1, AsmCause::Operand),
+        (b"j a b", 1, AsmCause::Operand),
+        (b".byte", 1, AsmCause::Operand),
+        (b".byte 1x, foo", 1, AsmCause::Operand),
+        (b".byte 1x", 1, AsmCause::Number),
+        (b".byte ,", 1, AsmCause::Operand),
+        (b"fp: .byte -0x1", 1, AsmCause::Number),
+        (b"add x00, x1, x2", 1, AsmCause::Operand),
+        (b"addi a0, a1, --1", 1, AsmCause::Number),
+        (b"mv a0", 1, AsmCause::Operand),
+        (b"ret 1", 1, AsmCause::Operand),
+        (b".ascii hi", 1, AsmCause::Operand),
+        (b".ascii \"a\", \"b\"", 1, AsmCause::Operand),
+        (b".align 1, 2", 1, AsmCause::Operand),
+        (b"add a0, a1, a2,", 1, AsmCause::Operand),
+        (b"addi a0, a1, 5\r", 1, AsmCause::Number),
+        (b"l:\nl: nop", 2, AsmCause::Twice),
+        (b"j m", 1, AsmCause::Label),
+        (b"beq a0, a1, m", 1, AsmCause::Label),
+        (b"la a0, m", 1, AsmCause::Label),
+        (b"addi a0, a1, 2048", 1, AsmCause::Range),
+        (b"addi a0, a1, -2049", 1, AsmCause::Range),
+        (b"ld a0, 2048(sp)", 1, AsmCause::Range),
+        (b"slli a0, a0, 64", 1, AsmCause::Range),
+        (b"slliw a0, a0, 32", 1, AsmCause::Range),
+        (b"srli a0, a0, -1", 1, AsmCause::Range),
+        (b"lui a0, 1048576", 1, AsmCause::Range),
+        (b"lui a0, -1", 1, AsmCause::Range),
+        (b"li a0, 2147483648", 1, AsmCause::Range),
+        (b"li a0, -2147483649", 1, AsmCause::Range),
+        (b".byte 256", 1, AsmCause::Range),
+        (b".byte -129", 1, AsmCause::Range),
+        (b".word 4294967296", 1, AsmCause::Range),
+        (b".dword 18446744073709551616", 1, AsmCause::Range),
+        (b".dword -9223372036854775809", 1, AsmCause::Range),
+        (b".zero -1", 1, AsmCause::Range),
+        (b".align 13", 1, AsmCause::Range),
+        (b".align -1", 1, AsmCause::Range),
+        (b".zero 1048577", 1, AsmCause::Big),
+        (b".zero 1048576\nnop", 2, AsmCause::Big),
+        (b"j m\n.zero 1048576\nm:", 1, AsmCause::Range),
+        (b"beq a0, a1, m\n.zero 4092\nm:", 1, AsmCause::Range),
+        (b"j m\n.byte 1\nm:", 1, AsmCause::Range),
+        (b".zero 99999999999999999999999999", 1, AsmCause::Big),
+        (b"addi a0, a1, 99999999999999999999999", 1, AsmCause::Range),
+        (b"j far\nnop\nl: foo\nnop\nnop", 1, AsmCause::Label),
+        (b".zero 1048577\nfoo", 1, AsmCause::Big),
+        (b"l:\nl: .byte 256", 2, AsmCause::Twice),
+        (b"l:\nl: j m", 2, AsmCause::Twice),
+        (b"j m\nm : nop", 1, AsmCause::Label),
+        (b".zero 1048576\nl:\n.ascii \"\"\n.byte 1", 4, AsmCause::Big),
         (
-            "beq a0, a1, m\nnop\nm: addi a0, a0, 4096",
+            b"beq a0, a1, m\nnop\nm: addi a0, a0, 4096",
             3,
             AsmCause::Range,
         ),
+        (b"nop\nfoo # \xff\n", 2, AsmCause::Text),
     ];
     for (text, line, cause) in cases {
-        let refusal = program(rt.alloc(), text).err();
+        let refusal = assemble(rt.alloc(), text).err();
         assert_eq!(rt; refusal, Some(AsmError::Line(line, cause)), "at {text:?}");
     }
-    Ok(())
-}
-
-#[test]
-fn takes_utf8_alone(rt: HostRuntime) -> Result<(), Fail> {
-    let text = program(rt.alloc(), ".ascii \"\u{e9}\" # \u{e8}")?;
-    assert_eq!(rt; text.as_slice(), b"\xc3\xa9".as_slice());
-    let refusal = assemble(rt.alloc(), b"nop\nfoo # \xff\n").err();
-    assert_eq!(rt; refusal, Some(AsmError::Line(2, AsmCause::Text)));
     Ok(())
 }

@@ -1,29 +1,27 @@
 use Rattle.std.proofs.Common.{◌≤◌, ◌+◌, ◌∙◌, sym, ap, length, subst}
-use Rattle.rv_asm.specs.Text.{lines_left}
+use Rattle.asm_text.specs.Text.{lines_left}
 use Rattle.rv_asm.specs.Labels.{defined}
-use Rattle.rv_asm.specs.Encoding.{HasPlaced}
+use Rattle.rv_asm.specs.Words.{HasPlaced}
 use Rattle.rv_asm.specs.Line.{read, line_end, line_bytes}
 use Rattle.rv_asm.specs.Program.{outcomes_in, gathered, in_front}
-use Rattle.rv_asm.proofs.TextLists.{bytes_left}
-use Rattle.rv_asm.proofs.ProgramLists.{gathered-line, gathered-refused, gathered-end, placed-ok, placed-err, counted-more}
+use Rattle.asm_text.proofs.TextLists.{bytes_left}
+use Rattle.rv_asm.proofs.ProgramLists.{gathered-line, gathered-error, gathered-end, counted-more}
 use Rattle.rv_asm.proofs.program.bytes_of.Goals as goal
 
 pub returns-in-Err : goal.returns-in-Err
-returns-in-Err c = λ _.
+returns-in-Err c = λ told.
     let find = defined c.args.labels.now in
     let number = c.loop-rest.number in
     let at = c.loop-rest.address in
     let front = c.loop-rest.bytes.items in
-    let line = c.split_line.result.0.now in
-    let more = lines_left c.split_line.result.1 in
-    let refused = placed-err (line_bytes find number at (read line)) (line_end at (read line)) front
-    c.append_line.new.bytes.items c.in-Err.cause
-    (subst (HasPlaced (line_bytes find number at (read line)) (line_end at (read line)) front c.append_line.new.bytes.items)
-    c.in-Err.is c.in_ok-next.ensures) in
+    let new = c.append_line.new.bytes.items in
+    let line = c.first_line.result.0.now in
+    let more = lines_left c.first_line.result.1 in
+    let placed = subst (HasPlaced (line_bytes find number at (read line)) (line_end at (read line)) front new) c.in-Err.is c.append_line.ensures in
     c.loop-rest.invariant.bytes
     ∙ (ap (λ rest. in_front front (gathered number (outcomes_in find number at (lines_left rest)))) c.in-Some.is
-    ∙ (ap (λ ls. in_front front (gathered number (outcomes_in find number at ls))) c.split_line.ensures.lines
-    ∙ gathered-refused find number at line more front c.in-Err.cause refused))
+    ∙ (ap (λ ls. in_front front (gathered number (outcomes_in find number at ls))) c.first_line.ensures.lines
+    ∙ gathered-error find number at line more front new (line_end at (read line)) c.in-Err.error c.at.result c.at.ensures placed told))
 
 pub loop-rest-preserved : goal.loop-rest-preserved
 loop-rest-preserved c =
@@ -32,20 +30,19 @@ loop-rest-preserved c =
     let at = c.loop-rest.address in
     let front = c.loop-rest.bytes.items in
     let new = c.append_line.new.bytes.items in
-    let line = c.split_line.result.0.now in
-    let rest = c.split_line.result.1 in
-    let placed = placed-ok (line_bytes find number at (read line)) (line_end at (read line)) c.in-Ok.next front new
-    (subst (HasPlaced (line_bytes find number at (read line)) (line_end at (read line)) front new) c.in-Ok.is c.in_ok-next.ensures) in
+    let line = c.first_line.result.0.now in
+    let rest = c.first_line.result.1 in
+    let placed = subst (HasPlaced (line_bytes find number at (read line)) (line_end at (read line)) front new) c.in-Ok.is c.append_line.ensures in
     record {
       bytes =
           c.loop-rest.invariant.bytes
           ∙ (ap (λ r. in_front front (gathered number (outcomes_in find number at (lines_left r)))) c.in-Some.is
-          ∙ (ap (λ ls. in_front front (gathered number (outcomes_in find number at ls))) c.split_line.ensures.lines
-          ∙ (gathered-line find number at line (lines_left rest) front new placed.1.0 placed.1.1.0 placed.1.1.1
+          ∙ (ap (λ ls. in_front front (gathered number (outcomes_in find number at ls))) c.first_line.ensures.lines
+          ∙ (gathered-line find number at line (lines_left rest) front new placed.1.0 placed.1.1 placed.1.2
           ∙ ap (λ a. in_front new (gathered (number + 1) (outcomes_in find (number + 1) a (lines_left rest)))) (sym placed.0))));
       counted = counted-more number (length c.args.text.now) (length c.in-Some.text.now) rest _
           (subst (λ r. number + bytes_left r ≤ length c.args.text.now + 2) c.in-Some.is c.loop-rest.invariant.counted)
-          c.split_line.ensures.shorter;
+          c.first_line.ensures.shorter;
     }
 
 pub returns : goal.returns

@@ -1,9 +1,9 @@
 use Rattle.std.proofs.Common.{◌≡◌, ◌≤◌, ◌+◌, length}
-use Rattle.rv_asm.specs.Text.{lines, lines_left}
+use Rattle.asm_text.specs.Text.{lines, lines_left}
 use Rattle.rv_asm.specs.Labels.{defined}
 use Rattle.rv_asm.specs.Encoding.{base}
 use Rattle.rv_asm.specs.Program.{outcomes_in, gathered, in_front}
-use Rattle.rv_asm.proofs.TextLists.{bytes_left}
+use Rattle.asm_text.proofs.TextLists.{bytes_left}
 use Rattle.rv_asm.proofs.program.bytes_of.Given as goal
 
 abbrev pub invariant-loop-rest : goal.invariant-loop-rest

@@ -1,9 +1,9 @@
 use Rattle.std.proofs.Common.{◌≡◌, ◌≤◌, ◌+◌, ℕ, List, length}
-use Rattle.rv_asm.specs.Text.{lines, lines_left}
+use Rattle.asm_text.specs.Text.{lines, lines_left}
 use Rattle.rv_asm.specs.Labels.{defined, otherwise}
 use Rattle.rv_asm.specs.Encoding.{base}
 use Rattle.rv_asm.specs.Program.{definition_in}
-use Rattle.rv_asm.proofs.TextLists.{bytes_left}
+use Rattle.asm_text.proofs.TextLists.{bytes_left}
 use Rattle.rv_asm.proofs.program.define_labels.Given as goal
 
 abbrev pub invariant-loop-rest : goal.invariant-loop-rest

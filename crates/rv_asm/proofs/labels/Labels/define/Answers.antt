@@ -1,5 +1,5 @@
 use Rattle.std.proofs.Common.{◌≡◌, ◌∙◌, ap, cond, subst, Some, None, rules}
-use Rattle.std.proofs.lemmas.Map.Text.{hash_map_updates_str}
+use Rattle.std.proofs.lemmas.Map.Text.{btree_map_updates_str}
 use Rattle.std.specs.Str.{bytes_eq}
 use Rattle.rv_asm.specs.Labels.{defined, otherwise}
 use Rattle.rv_asm.proofs.LabelLists.{update-absent}
@@ -14,5 +14,5 @@ returns-in_ok-insert c =
     (λ name. defined (record { definitions = c.insert.new.self }) other
     ≡ otherwise (old other) (cond (bytes_eq name other) (Some c.args.definition) None))
     c.as_slice.ensures
-    (hash_map_updates_str key c.args.self.now.definitions c.insert.new.self (Some c.args.definition) c.in_ok-insert.ensures.updates other
+    (btree_map_updates_str key c.args.self.now.definitions c.insert.new.self (Some c.args.definition) c.in_ok-insert.ensures.updates other
     ∙ update-absent old key (Some c.args.definition) other (ap old c.as_slice.ensures ∙ absent))

@@ -1,0 +1,4 @@
+pub mod LineLists
+pub mod NumberLists
+pub mod RegisterLists
+pub mod TextLists

@@ -1,7 +1,0 @@
-use Rattle.std.proofs.Common.{◌≡◌, take, fold}
-use Rattle.rv_asm.specs.Text.{quoting_behind}
-use Rattle.rv_asm.specs.declared.text.Quoting.TheVariants.{Outside}
-use Rattle.rv_asm.proofs.text.is_closed.Given as goal
-
-abbrev pub invariant-loop-byte : goal.invariant-loop-byte
-invariant-loop-byte l = l.quoting ≡ fold quoting_behind Outside (take l.byte-index l.text)
