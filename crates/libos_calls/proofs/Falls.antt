@@ -61,12 +61,12 @@ writes_falls c true m = piece_nearer (length (run_in c).bytes) (number c 1) (len
 writes_falls c false m = omega arith
 
 -- Each stage is some way from the end.
-left_some : (c : Cont) (stage : Stage) → 0 < left_at c stage
-left_some c CloseHandles = omega arith
-left_some c OpenConsole = omega arith
-left_some c ReadProgram = omega arith
-left_some c WriteRun = omega arith
-left_some c _ = lit< tt
+pub left_at-positive : (c : Cont) (stage : Stage) → 0 < left_at c stage
+left_at-positive c CloseHandles = omega arith
+left_at-positive c OpenConsole = omega arith
+left_at-positive c ReadProgram = omega arith
+left_at-positive c WriteRun = omega arith
+left_at-positive c _ = lit< tt
 
 falls_at : (os : LibOs) (c : Cont) (stage : Stage) (r : Reply) → KeptAt c stage → (stage ≡ ProgramLength → IsLengthSmall r) → calls_left (answered_at os c stage r) < left_at c stage
 falls_at os c SetContext Done kept small = lit< tt
@@ -90,7 +90,7 @@ falls_at os c WriteBlock Done kept small = lit< tt
 falls_at os c CreateThread (Handle h) kept small = lit< tt
 falls_at os c CreateEvent (Handle h) kept small = lit< tt
 falls_at os c StartThread Done kept small = lit< tt
-falls_at os c stage r kept small = left_some c stage
+falls_at os c stage r kept small = left_at-positive c stage
 
 falls_in : (os : LibOs) (cont : Option Cont) (r : Reply) → IfSome cont (λ c. KeptAt c c.stage) → IfSome cont (λ c. c.stage ≡ ProgramLength → IsLengthSmall r) → 0 < left_of cont → calls_left (answered_in os cont r) < left_of cont
 falls_in os None r kept small some = absurd (omega arith)

@@ -1,4 +1,5 @@
--- How far a service is from its end: a number that falls with each reply, so that every service ends.
+-- How far a service is from its end: a number that falls with each reply, so that every service
+-- ends.
 use Rattle.std.specs.Prelude.{ℕ, ◌+◌, ◌-◌, ◌*◌, ◌^◌, ◌<◌, length}
 use Rattle.std.specs.declared.option.Option.{Option}
 use Rattle.std.specs.declared.option.Option.TheVariants.{None, Some}
@@ -34,8 +35,8 @@ stages_left OpenProgram = 13
 stages_left OpenConsole = 14
 stages_left Configure = 15
 
--- What is left to do in this stage: the handles that are still to be closed or opened, and the bytes that are still to
--- be read or written.
+-- What is left to do in this stage: the handles that are still to be closed or opened, and the
+-- bytes that are still to be read or written.
 abbrev pub left_in : Cont → Stage → ℕ
 left_in c CloseHandles = length c.handles
 left_in c OpenConsole = 3 - length c.handles

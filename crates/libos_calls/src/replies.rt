@@ -44,7 +44,15 @@ pub fn returned(context: Context, result_in_a0: u64) -> Context
 
 /// What a stage that keeps nothing keeps.
 pub fn bare(alloc: Global, event: Event, stage: Stage) -> Cont
-    ensures { result ≡ record { event = event; stage = stage; next = (upcall_in event).context; names = []; bytes = []; handles = []; numbers = [] } }
+    ensures { result ≡ record {
+      event = event;
+      stage = stage;
+      next = (upcall_in event).context;
+      names = [];
+      bytes = [];
+      handles = [];
+      numbers = [];
+    } }
 {
     let next = upcall_of(&event).context;
     Cont {
@@ -60,7 +68,15 @@ pub fn bare(alloc: Global, event: Event, stage: Stage) -> Cont
 
 /// The service of a system call whose result is known.
 pub fn finishing(alloc: Global, event: Event, result_in_a0: u64) -> Cont
-    ensures { result ≡ record { event = event; stage = Stage.SetContext; next = machine.returned (upcall_in event).context result_in_a0; names = []; bytes = []; handles = []; numbers = [] } }
+    ensures { result ≡ record {
+      event = event;
+      stage = Stage.SetContext;
+      next = machine.returned (upcall_in event).context result_in_a0;
+      names = [];
+      bytes = [];
+      handles = [];
+      numbers = [];
+    } }
 {
     let next = returned(upcall_of(&event).context, result_in_a0);
     let mut cont = bare(alloc, event, Stage::SetContext);
@@ -70,7 +86,8 @@ pub fn finishing(alloc: Global, event: Event, result_in_a0: u64) -> Cont
 
 /// The service of a process that ends, with the handles that are still to be closed.
 pub fn closing(alloc: Global, event: Event, handles: Items<u64>, numbers: Items<u64>) -> Cont
-    ensures { (c : Cont) → c.event ≡ event → c.numbers ≡ numbers → result ≡ spec.service_closing c handles }
+    ensures { (c : Cont) → c.event ≡ event → c.numbers ≡ numbers
+        → result ≡ spec.service_closing c handles }
 {
     if handles.is_empty() {
         let mut cont = bare(alloc, event, Stage::ExitProcess);
@@ -188,7 +205,8 @@ fn take_step(os: &mut LibOs, step: Step)
 fn take_reply(os: &mut LibOs, alloc: Global, reply: &Reply) -> Result<(), Memory>
     requires { IsKept os.old }
     ensures value { OnOk result (os.new ≡ spec.answered os.old reply.now) }
-    ensures small { OnOk result (IfSome os.old.cont (λ c. c.stage ≡ Stage.ProgramLength → IsLengthSmall reply.now)) }
+    ensures small { OnOk result (IfSome os.old.cont
+        (λ c. c.stage ≡ Stage.ProgramLength → IsLengthSmall reply.now)) }
 {
     let Some(cont) = os.cont.take() else {
         return Ok(());

@@ -143,7 +143,8 @@ fn written_to(alloc: Global, mut cont: Cont, written: u64, size: u64) -> Result<
 fn piece_written(alloc: Global, cont: Cont) -> Result<Cont, AllocError>
     requires stage { cont.stage ≡ Stage.WriteRun }
     requires kept { IsWriting cont }
-    ensures { IfOk result (λ next. next ≡ spec.start_writing cont (number cont 1 + length (run_piece cont))) }
+    ensures { IfOk result (λ next.
+        next ≡ spec.start_writing cont (number cont 1 + length (run_piece cont))) }
 {
     let size = count_of_pages(cont.bytes.as_slice()) * PAGE;
     let written = number_at(cont.numbers.as_slice(), 1);
@@ -153,7 +154,8 @@ fn piece_written(alloc: Global, cont: Cont) -> Result<Cont, AllocError>
 
 /// The open descriptions of the console.
 fn console_descriptions(alloc: Global, handles: &[u64]) -> Result<Items<Description>, AllocError>
-    ensures { IfOk result (λ notes. (c : Cont) → c.handles ≡ handles.now → notes ≡ spec.console_descriptions c) }
+    ensures { IfOk result (λ notes. (c : Cont) → c.handles ≡ handles.now
+        → notes ≡ spec.console_descriptions c) }
 {
     let input = Description {
         id: 1,
@@ -197,7 +199,8 @@ fn console_descriptors(alloc: Global) -> Result<Items<DescriptorNote>, AllocErro
 
 /// The records of the run's first process, of its thread and of the console.
 fn first_records(alloc: Global, handles: &[u64]) -> Result<Change, AllocError>
-    ensures { IfOk result (λ change. (c : Cont) → c.handles ≡ handles.now → change ≡ spec.change c Stage.StartThread Reply.Done) }
+    ensures { IfOk result (λ change. (c : Cont) → c.handles ≡ handles.now
+        → change ≡ spec.change c Stage.StartThread Reply.Done) }
 {
     let descriptions = console_descriptions(alloc, handles)?;
     let descriptors = console_descriptors(alloc)?;

@@ -1,5 +1,6 @@
--- What a service does on a reply, and what a reply changes of the records: one row for each stage. A
--- reply that the stage doesn't list ends the service; no host that keeps to its contract gives one.
+-- What a service does on a reply, and what a reply changes of the records: one row for each stage.
+-- A reply that the stage doesn't list ends the service; no host that keeps to its contract gives
+-- one.
 use Rattle.std.specs.Prelude.{ℕ, ◌+◌, ◌==◌, Bool, true, false, if◌then◌else◌, List, [], ◌∷◌, ◌++◌, length, take, drop, nat_lt, nat_le}
 use Rattle.std.specs.declared.option.Option.{Option}
 use Rattle.std.specs.declared.option.Option.TheVariants.{None, Some}

@@ -40,10 +40,12 @@ is_closable (Some (Stream name)) = true
 is_closable (Some (Event set)) = true
 is_closable _ = false
 
--- Handles that can be closed one after another: each is of a stream or an event, and none stands twice.
+-- Handles that can be closed one after another: each is of a stream or an event, and none stands
+-- twice.
 abbrev pub Closable : Live → List ℕ → Type 0
 Closable live [] = Unit {0}
-Closable live (h ∷ hs) = (is_closable (get {R = nat_cmp} live h) ≡ true) × (contains hs h ≡ false) × Closable live hs
+Closable live (h ∷ hs) =
+    (is_closable (get {R = nat_cmp} live h) ≡ true) × (contains hs h ≡ false) × Closable live hs
 
 -- No other number names a thread.
 abbrev pub IsLoneThread : Live → ℕ → Type 0
@@ -52,7 +54,8 @@ IsLoneThread live t =
 
 -- The records of the process and of its thread fit their objects, and so do the open descriptions;
 -- the console's input isn't open for writing.
-pub record FitsRecords (os : LibOs) (live : Live) (process : ProcessNote) (thread : ThreadNote) : Type 0 where
+pub record FitsRecords (os : LibOs) (live : Live) (process : ProcessNote) (thread : ThreadNote)
+    : Type 0 where
   pub processes : os.processes ≡ process ∷ []
   pub threads : os.threads ≡ thread ∷ []
   pub first : process.pid ≡ 1
@@ -63,8 +66,10 @@ pub record FitsRecords (os : LibOs) (live : Live) (process : ProcessNote) (threa
   pub object : get {R = nat_cmp} live thread.handle ≡ Some (Thread process.handle context)
   pub alone : IsLoneThread live thread.handle
   pub closable : Closable live (handles_of os)
-  pub streams : (id : ℕ) (d : Description) → description_named id os.descriptions ≡ Some d → get {R = nat_cmp} live d.handle ≡ Some (Stream (stream_of_kind d.kind))
-  pub inputs : (id : ℕ) (d : Description) → description_named id os.descriptions ≡ Some d → d.kind ≡ ConIn → bit_and d.access 2 ≢ 2
+  pub streams : (id : ℕ) (d : Description) → description_named id os.descriptions ≡ Some d
+      → get {R = nat_cmp} live d.handle ≡ Some (Stream (stream_of_kind d.kind))
+  pub inputs : (id : ℕ) (d : Description) → description_named id os.descriptions ≡ Some d
+      → d.kind ≡ ConIn → bit_and d.access 2 ≢ 2
 
 -- Nothing is in progress, and the process runs.
 pub record FitsIdle (os : LibOs) (o : Objects) : Type 0 where
@@ -110,7 +115,8 @@ pub record FitsWrite (os : LibOs) (o : Objects) (c : Cont) : Type 0 where
   pub write : register served.upcall.context 17 ≡ WRITE
   pub some : register served.upcall.context 12 ≢ 0
   pub description : Description
-  pub behind : description_behind os served.upcall.process (register served.upcall.context 10) ≡ Some description
+  pub behind : description_behind os served.upcall.process (register served.upcall.context 10)
+      ≡ Some description
   pub writable : bit_and description.access 2 ≡ 2
 
 -- The bytes were read.
@@ -182,7 +188,8 @@ abbrev pub Opened : Live → List ℕ → Type 0
 Opened live [] = Unit {0}
 Opened live (a ∷ []) = IsStream live stream.ConIn a
 Opened live (a ∷ b ∷ []) = IsStream live stream.ConIn a × IsStream live stream.ConOut b
-Opened live (a ∷ b ∷ c ∷ rest) = IsStream live stream.ConIn a × IsStream live stream.ConOut b × IsStream live stream.ConErr c
+Opened live (a ∷ b ∷ c ∷ rest) =
+    IsStream live stream.ConIn a × IsStream live stream.ConOut b × IsStream live stream.ConErr c
 
 pub record FitsConfigure (os : LibOs) (o : Objects) (c : Cont) : Type 0 where
   pub start : FitsStart os o c
@@ -221,10 +228,12 @@ pub record FitsLoaded (os : LibOs) (o : Objects) (c : Cont) : Type 0 where
   pub opening : FitsOpening os o c 3
   pub plain : is_plain c.bytes ≡ true
 
--- The process that is made has the pages of the program with these rights, and the stack where it has one.
+-- The process that is made has the pages of the program with these rights, and the stack where it
+-- has one.
 pub record HasPages (s : Space) (count rights stack : ℕ) : Type 0 where
   pub pages : (q : ℕ) → option_map (λ (frame : Frame). frame.rights) (get {R = nat_cmp} s q)
-      ≡ (if in_run 16 count q then Some rights else (if in_run STACK_PAGE stack q then Some 3 else None))
+      ≡ (if in_run 16 count q then Some rights
+      else (if in_run STACK_PAGE stack q then Some 3 else None))
   pub held : len s ≡ count + stack
 
 -- The process is made, and no thread.

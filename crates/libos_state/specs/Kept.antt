@@ -1,5 +1,5 @@
--- What the calls of a service rest on: the ends of the console, the program's bytes, how far its run is written, and
--- the names.
+-- What the calls of a service rest on: the ends of the console, the program's bytes, how far its
+-- run is written, and the names.
 use Rattle.std.specs.Prelude.{◌^◌, ◌<◌, ◌≤◌, IfSome, length}
 use Rattle.libos_state.specs.declared.cont.Cont.{Cont}
 use Rattle.libos_state.specs.declared.cont.Stage.{Stage}

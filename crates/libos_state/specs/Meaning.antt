@@ -1,5 +1,5 @@
--- What the library OS and a world stand for: the monolithic machine at the end of the current turn, or what the start
--- that is going on leads to.
+-- What the library OS and a world stand for: the monolithic machine at the end of the current turn,
+-- or what the start that is going on leads to.
 use Rattle.std.specs.Prelude.{ℕ, ◌+◌, ◌-◌, ◌*◌, List, [], ◌++◌, length, take, drop}
 use Rattle.std.specs.declared.option.Option.{Option}
 use Rattle.std.specs.declared.option.Option.TheVariants.{None, Some}
@@ -67,7 +67,8 @@ name_in None = []
 
 -- The bytes of the open file of the program.
 abbrev pub program_file : World → Cont → List ℕ
-program_file w c = file_bytes w.contents.files (name_in (stream_of (object_at w.objects (file_or_child c))))
+program_file w c =
+    file_bytes w.contents.files (name_in (stream_of (object_at w.objects (file_or_child c))))
 
 -- The memory of the process that is made.
 abbrev pub child_memory : World → Cont → Space
@@ -85,24 +86,31 @@ abbrev pub begins_with : World → Cont → Space → Started
 begins_with w c memory = begins w memory (start_context (plain_program c.bytes) (arguments c))
 
 abbrev pub meant_at : LibOs → World → Cont → Stage → Started
-meant_at os w c SetContext = Runs (resumed (base os w) (caller_in os c).thread (caller_in os c).process c.next)
+meant_at os w c SetContext =
+    Runs (resumed (base os w) (caller_in os c).thread (caller_in os c).process c.next)
 meant_at os w c Resume = Runs (made_ready (base os w) (caller_in os c).thread)
 meant_at os w c CloseHandles = Runs (base os w)
 meant_at os w c ExitProcess = Runs (base os w)
 meant_at os w c ReadMemory = Runs (served (base os w) (caller_in os c) (upcall_in c.event).cause)
-meant_at os w c WriteStream = Runs (write_bytes (base os w) (caller_in os c) (stream_in os c) c.bytes)
+meant_at os w c WriteStream =
+    Runs (write_bytes (base os w) (caller_in os c) (stream_in os c) c.bytes)
 meant_at os w c Configure = started (blank os.settings no_positions w.contents) (job_in c)
 meant_at os w c OpenConsole = started (unstarted w) (job_in c)
 meant_at os w c OpenProgram = started (unstarted w) (job_in c)
 meant_at os w c ProgramLength = started_with (unstarted w) (arguments c) (program_file w c)
 meant_at os w c ReadProgram =
-    started_with (unstarted w) (arguments c) (c.bytes ++ take (number c 0 - length c.bytes) (drop (length c.bytes) (program_file w c)))
+    started_with (unstarted w) (arguments c)
+    (c.bytes ++ take (number c 0 - length c.bytes) (drop (length c.bytes) (program_file w c)))
 meant_at os w c CloseProgram = started_with (unstarted w) (arguments c) c.bytes
 meant_at os w c CreateProcess = started_with (unstarted w) (arguments c) c.bytes
-meant_at os w c AllocateRun = begins_with w c (stacked (loaded_run (child_memory w c) (run_in c)) (arguments c))
+meant_at os w c AllocateRun =
+    begins_with w c (stacked (loaded_run (child_memory w c) (run_in c)) (arguments c))
 meant_at os w c WriteRun =
-    begins_with w c (stacked (with_rights_of (filled_from (child_memory w c) ((run_in c).page * 4096 + number c 1) (drop (number c 1) (run_in c).bytes)) (run_in c)) (arguments c))
-meant_at os w c ProtectRun = begins_with w c (stacked (with_rights_of (child_memory w c) (run_in c)) (arguments c))
+    let at = (run_in c).page * 4096 + number c 1 in
+    let filled = filled_from (child_memory w c) at (drop (number c 1) (run_in c).bytes) in
+    begins_with w c (stacked (with_rights_of filled (run_in c)) (arguments c))
+meant_at os w c ProtectRun =
+    begins_with w c (stacked (with_rights_of (child_memory w c) (run_in c)) (arguments c))
 meant_at os w c AllocateStack = begins_with w c (stacked (child_memory w c) (arguments c))
 meant_at os w c WriteBlock = begins_with w c (with_block (child_memory w c) (arguments c))
 meant_at os w c CreateThread = begins_with w c (child_memory w c)

@@ -89,15 +89,20 @@ asked os c stage.Configure = Configure os.settings no_positions
 asked os c OpenConsole = StreamOpen (console_name (length c.handles)) false false
 asked os c OpenProgram = StreamOpen (File (program_name c)) false false
 asked os c ProgramLength = StreamLength (file_or_child c)
-asked os c ReadProgram = StreamRead (file_or_child c) (length c.bytes) (min PIECE (number c 0 - length c.bytes))
+asked os c ReadProgram =
+    StreamRead (file_or_child c) (length c.bytes) (min PIECE (number c 0 - length c.bytes))
 asked os c CloseProgram = Close (file_or_child c)
 asked os c CreateProcess = ProcessCreate
 asked os c AllocateRun = MemoryAllocate (file_or_child c) (run_in c).page (pages_in (run_in c)) 3
-asked os c WriteRun = MemoryWrite (file_or_child c) ((run_in c).page * 4096 + number c 1) (run_piece c)
-asked os c ProtectRun = MemoryProtect (file_or_child c) (run_in c).page (pages_in (run_in c)) (run_in c).rights
+asked os c WriteRun =
+    MemoryWrite (file_or_child c) ((run_in c).page * 4096 + number c 1) (run_piece c)
+asked os c ProtectRun =
+    MemoryProtect (file_or_child c) (run_in c).page (pages_in (run_in c)) (run_in c).rights
 asked os c AllocateStack = MemoryAllocate (file_or_child c) STACK_PAGE STACK_PAGES 3
-asked os c WriteBlock = MemoryWrite (file_or_child c) (stack_pointer (arguments c)) (argument_block (arguments c))
-asked os c CreateThread = ThreadCreate (file_or_child c) (start_context (plain_program c.bytes) (arguments c))
+asked os c WriteBlock =
+    MemoryWrite (file_or_child c) (stack_pointer (arguments c)) (argument_block (arguments c))
+asked os c CreateThread =
+    ThreadCreate (file_or_child c) (start_context (plain_program c.bytes) (arguments c))
 asked os c CreateEvent = EventCreate
 asked os c StartThread = ThreadResume (handle c 4)
 

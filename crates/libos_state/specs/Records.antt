@@ -54,7 +54,8 @@ described descriptions (Some d) = description_named d.description descriptions
 
 abbrev pub described_in : LibOs → ℕ → Option ProcessNote → Option Description
 described_in os fd None = None
-described_in os fd (Some process) = described os.descriptions (descriptor_named fd process.descriptors)
+described_in os fd (Some process) =
+    described os.descriptions (descriptor_named fd process.descriptors)
 
 -- The description behind a descriptor of the process that has a handle.
 abbrev pub description_behind : LibOs → ℕ → ℕ → Option Description
@@ -66,11 +67,16 @@ memory_of_object object = unwrap_or (running object) empty
 
 -- What the library OS knows of a process and of its object: one that has exited has its code alone.
 abbrev pub process_if : Option ℕ → Space → List DescriptorNote → mono.Process
-process_if None memory descriptors = record { memory = memory; code = None; descriptors = from_entries (map (λ d. (d.number, d.description)) descriptors) }
+process_if None memory descriptors = record {
+  memory = memory;
+  code = None;
+  descriptors = from_entries (map (λ d. (d.number, d.description)) descriptors);
+}
 process_if (Some code) memory descriptors = mono.exited code
 
 abbrev pub process_seen : Live → ProcessNote → mono.Process
-process_seen live n = process_if n.code (memory_of_object (get {R = nat_cmp} live n.handle)) n.descriptors
+process_seen live n =
+    process_if n.code (memory_of_object (get {R = nat_cmp} live n.handle)) n.descriptors
 
 abbrev pub no_context : Context
 no_context = record { pc = 0; x = replicate 31 0 }
@@ -81,7 +87,8 @@ context_of (Some (Thread process context)) = context
 context_of _ = no_context
 
 abbrev pub thread_seen : Live → ThreadNote → mono.Thread
-thread_seen live n = record { process = n.pid; context = context_of (get {R = nat_cmp} live n.handle) }
+thread_seen live n =
+    record { process = n.pid; context = context_of (get {R = nat_cmp} live n.handle) }
 
 abbrev pub description_seen : Description → mono.Description
 description_seen d = record { stream = stream_of_kind d.kind; access = d.access }

@@ -14,7 +14,7 @@ use Rattle.abi_calls.proofs.PositionsKept.{is_configure}
 use Rattle.abi_calls.proofs.PositionsKept.{KeepsPositions-Answers}
 use Rattle.libos_state.specs.declared.cont.Cont.{Cont}
 use Rattle.libos_state.specs.declared.cont.Stage.{Stage}
-use Rattle.libos_state.specs.declared.cont.Stage.TheVariants.{SetContext, Resume, CloseHandles, ExitProcess, ReadMemory, WriteStream, Configure, OpenConsole, OpenProgram, ProgramLength, ReadProgram, CloseProgram, CreateProcess, AllocateRun, WriteRun, ProtectRun, AllocateStack, WriteBlock, CreateThread, CreateEvent, StartThread}
+use Rattle.libos_state.specs.declared.cont.Stage.TheVariants.{Configure}
 use Rattle.libos_state.specs.declared.state.LibOs.{LibOs}
 use Rattle.libos_state.specs.Pending.{pending, asked, asked_by, no_positions}
 use Rattle.libos_state.specs.Fits.{Fits, FitsCont, FitsStage}
@@ -37,28 +37,9 @@ turns_kept : (o o' : Objects) (t t' : Told) (call : Call) (r : Reply) → is_con
 turns_kept o o' t t' call r not a = ap (λ p. p.turns) (KeepsPositions-Answers o o' t t' call r not a).positions
 
 turns_at : (os : LibOs) (c : Cont) (stage : Stage) (o o' : Objects) (t t' : Told) (r : Reply) → FitsStage os o c stage → Answers o t (asked os c stage) r o' t' → o'.positions.turns ≡ o.positions.turns
-turns_at os c SetContext o o' t t' r fits a = turns_kept o o' t t' _ r refl a
-turns_at os c Resume o o' t t' r fits a = turns_kept o o' t t' _ r refl a
-turns_at os c CloseHandles o o' t t' r fits a = turns_kept o o' t t' _ r refl a
-turns_at os c ExitProcess o o' t t' r fits a = turns_kept o o' t t' _ r refl a
-turns_at os c ReadMemory o o' t t' r fits a = turns_kept o o' t t' _ r refl a
-turns_at os c WriteStream o o' t t' r fits a = turns_kept o o' t t' _ r refl a
 turns_at os c Configure o o' t t' r fits a =
     sym (ap (λ (x : Answer). x.1.objects.positions.turns) a.abi.row) ∙ turns_configured o os.settings fits.unturned
-turns_at os c OpenConsole o o' t t' r fits a = turns_kept o o' t t' _ r refl a
-turns_at os c OpenProgram o o' t t' r fits a = turns_kept o o' t t' _ r refl a
-turns_at os c ProgramLength o o' t t' r fits a = turns_kept o o' t t' _ r refl a
-turns_at os c ReadProgram o o' t t' r fits a = turns_kept o o' t t' _ r refl a
-turns_at os c CloseProgram o o' t t' r fits a = turns_kept o o' t t' _ r refl a
-turns_at os c CreateProcess o o' t t' r fits a = turns_kept o o' t t' _ r refl a
-turns_at os c AllocateRun o o' t t' r fits a = turns_kept o o' t t' _ r refl a
-turns_at os c WriteRun o o' t t' r fits a = turns_kept o o' t t' _ r refl a
-turns_at os c ProtectRun o o' t t' r fits a = turns_kept o o' t t' _ r refl a
-turns_at os c AllocateStack o o' t t' r fits a = turns_kept o o' t t' _ r refl a
-turns_at os c WriteBlock o o' t t' r fits a = turns_kept o o' t t' _ r refl a
-turns_at os c CreateThread o o' t t' r fits a = turns_kept o o' t t' _ r refl a
-turns_at os c CreateEvent o o' t t' r fits a = turns_kept o o' t t' _ r refl a
-turns_at os c StartThread o o' t t' r fits a = turns_kept o o' t t' _ r refl a
+turns_at os c _ o o' t t' r fits a = turns_kept o o' t t' _ r refl a
 
 turns_in_cont : (os : LibOs) (cont : Option Cont) (o o' : Objects) (t t' : Told) (call : Call) (r : Reply) → asked_by os cont ≡ Some call → FitsCont os o cont → Answers o t call r o' t' → o'.positions.turns ≡ o.positions.turns
 turns_in_cont os None o o' t t' call r asks fits a = absurd (cc)
