@@ -7,8 +7,6 @@ mod page;
 mod pages;
 mod place;
 mod run;
-#[cfg(test)]
-mod tests;
 mod word;
 
 pub use error::PageError;
