@@ -55,8 +55,8 @@ module _ (name : ℕ → ℕ) where
       with_woken (λ w. w.thread) due' (renamed_lists name l) ≡ renamed_lists name (with_woken (λ w. w.thread) due l)
   with_woken-renamed due due' same l =
       let woken = ap (λ (ws : List Waiting). map name l.ready ++ map (λ (w : Waiting). w.thread) ws) (filter-map (renamed_waiting name) due' due same l.waiting)
-          ∙ ap (λ (ts : List ℕ). map name l.ready ++ ts) (threads-renamed (filter due l.waiting))
-          ∙ append-map name l.ready (map (λ (w : Waiting). w.thread) (filter due l.waiting)) in
+      ∙ ap (λ (ts : List ℕ). map name l.ready ++ ts) (threads-renamed (filter due l.waiting))
+      ∙ append-map name l.ready (map (λ (w : Waiting). w.thread) (filter due l.waiting)) in
       let stays = filter-map (renamed_waiting name) (λ w. not (due' w)) (λ w. not (due w)) (λ w. ap not (same w)) l.waiting in
       λ i. record (renamed_lists name l) { ready = woken i; waiting = stays i }
 
