@@ -9,7 +9,9 @@ use Rattle.std.proofs.Math.Bool.{and-false}
 use Rattle.std.proofs.lemmas.Bool.{false_from_ne_true, ltb-true}
 use Rattle.asm_text.specs.Numbers.{nearest}
 use Rattle.rv_core.specs.declared.instr.Instr.{Instr}
-use Rattle.rv_core.specs.Listing.{Form, U, J, I, S, B, R, Shift, ShiftW, Ignored, Whole, form}
+use Rattle.rv_core.specs.declared.listing.Layout.{Layout}
+use Rattle.rv_core.specs.declared.listing.Layout.TheVariants.{U, J, I, S, B, R, Shift, ShiftW, Ignored, Whole}
+use Rattle.rv_core.specs.Listing.{form}
 use Rattle.rv_core.specs.Encoding.{encoded, is_signed_by, is_below, is_immediate}
 
 far-signed : (half : ℕ) (z : ℤ) → half ≤ 2 ^ 62 → ¬ FitsSigned w64 z → is_signed_by half z ≡ false
@@ -23,7 +25,7 @@ far-below bound (pos n) small far =
     false_from_ne_true _ (λ within. far (fits_signed_from_abs w64 (pos n) (omega (arith, ltb-true n bound within, small))))
 far-below bound (negsuc n) small far = refl
 
-far-immediate : (f : Form) (z : ℤ) → ¬ FitsSigned w64 z → is_immediate f z ≡ false
+far-immediate : (f : Layout) (z : ℤ) → ¬ FitsSigned w64 z → is_immediate f z ≡ false
 far-immediate (U opcode) z far = rw (far-signed (2 ^ 31) z (omega arith) far) refl
 far-immediate (J opcode) z far = rw (far-signed (2 ^ 20) z (omega arith) far) refl
 far-immediate (I opcode f3) z far = far-signed (2 ^ 11) z (omega arith) far
