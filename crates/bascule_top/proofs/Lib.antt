@@ -3,3 +3,4 @@ pub mod Going
 pub mod Saying
 pub mod Pages
 pub mod Hello
+pub mod Histories

@@ -5,3 +5,4 @@ pub mod Outcomes
 pub mod Assembly
 pub mod Status
 pub mod Hello
+pub mod Histories

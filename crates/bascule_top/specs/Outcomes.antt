@@ -1,4 +1,4 @@
--- What each outcome of a command says, in both directions: every line excludes the others.
+-- What each outcome of a command says; where contents are told, every line excludes the others.
 use Rattle.std.specs.Prelude.{◌≡◌, ℕ, List}
 use Rattle.std.specs.declared.option.Option.{Option}
 use Rattle.std.specs.declared.option.Option.TheVariants.{None, Some}

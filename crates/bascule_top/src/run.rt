@@ -4,7 +4,9 @@ ghost use Rattle.libos_state.specs.Fits as fits;
 ghost use Rattle.turn_engine.specs.Serves.{IsUp};
 ghost use Rattle.turn_engine.specs.Halts.{HaltsRun};
 ghost use Rattle.bascule_top.specs.Commands as spec;
+ghost use Rattle.turn_engine.specs.History.{moment};
 ghost use Rattle.bascule_top.specs.Runs.{EndsRun};
+ghost use Rattle.bascule_top.specs.Histories.{Ran, BreaksRun};
 
 use abi_calls::Host;
 use libos_calls::exit_code;
@@ -25,6 +27,8 @@ pub fn run<H: Host>(
     ensures code { IfOk result (λ code. code ≡ fits.exit_code machine.new.os) }
     ensures ends { IfOk result (λ _. EndsRun spec.TURNS machine.old.os (H.objects host.old) (H.told host.old) machine.new.os (H.objects host.new) (H.told host.new)) }
     ensures halts { OnErr result (HaltsRun spec.TURNS machine.old.os (H.objects host.old) (H.told host.old) (H.told host.new)) }
+    ensures history { IfOk result (λ _. Ran spec.TURNS (moment machine.old.os (H.objects host.old) (H.told host.old) (H.journal host.old) (H.answered_count host.old)) (moment machine.new.os (H.objects host.new) (H.told host.new) (H.journal host.new) (H.answered_count host.new))) }
+    ensures broken { OnErr result (BreaksRun spec.TURNS (moment machine.old.os (H.objects host.old) (H.told host.old) (H.journal host.old) (H.answered_count host.old)) (H.told host.new) (H.journal host.new) (H.answered_count host.new)) }
     ensures cause { HasCause EngineError.Failed (H.fault_count host.old) (H.fault_count host.new) result }
 {
     for _turn in 0..TURNS {

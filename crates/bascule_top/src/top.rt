@@ -2,9 +2,11 @@ ghost use Rattle.std.specs.Prelude.{◌≡◌, ◌≢◌, None, Some, true, IfOk
 ghost use Rattle.bas_edge.specs.Faults.{HasCause, Rose};
 ghost use Rattle.abi_calls.specs.Fresh.{IsFreshWorld};
 ghost use Rattle.bascule_top.specs.Assembly.{Assembly};
-ghost use Rattle.bascule_top.specs.Commands.{UsesNoHost, UsesNoShelf, command_of, words_of, is_name, start_settings};
+ghost use Rattle.bascule_top.specs.Commands.{TURNS as bound, UsesNoHost, UsesNoShelf, command_of, words_of, is_name, start_settings};
 ghost use Rattle.bascule_top.specs.declared.outcome.Outcome.TheVariants.{NoProgram};
 ghost use Rattle.bascule_top.specs.Outcomes.{Headline, Says, Stops, IsOfRun};
+ghost use Rattle.bascule_top.specs.Histories.{BreaksRun, IsHistory, Historic, opening};
+ghost use Rattle.turn_engine.specs.History.{moment};
 
 use crate::assembly::assemble_file;
 use crate::command::{Command, read_command};
@@ -46,6 +48,8 @@ fn start<H: Host>(alloc: Global, name: &[u8], host: &mut H) -> Result<Outcome, E
     ensures says { IfOk result (λ outcome. Says outcome name.now (H.told host.old) (H.objects host.new) (H.told host.new)) }
     ensures own { IfOk result IsOfRun }
     ensures stops { OnErr result (Stops name.now (H.told host.old) (H.told host.new)) }
+    ensures history { IfOk result (λ outcome. IsHistory outcome (moment (opening name.now) (H.objects host.old) (H.told host.old) (H.journal host.old) (H.answered_count host.old)) (H.objects host.new) (H.told host.new) (H.journal host.new) (H.answered_count host.new)) }
+    ensures broken { OnErr result (BreaksRun bound (moment (opening name.now) (H.objects host.old) (H.told host.old) (H.journal host.old) (H.answered_count host.old)) (H.told host.new) (H.journal host.new) (H.answered_count host.new)) }
     ensures cause { HasCause EngineError.Failed (H.fault_count host.old) (H.fault_count host.new) result }
 {
     let os = boot(alloc, name, settings_of_start(alloc))?;
@@ -67,7 +71,8 @@ fn start<H: Host>(alloc: Global, name: &[u8], host: &mut H) -> Result<Outcome, E
 /// `start NAME`: the program of this name, 1 to 80 bytes, runs with its name as its one argument, for at most
 /// 1,000,000 turns of at most 1,000 instructions each. Where the host tells its contents, the outcome is that of the
 /// monolithic machine's run over them, its files, output and errors are those of the run's last state, and its world
-/// agrees with that state. `HostFault` comes only where the host's count of faults rose; `OutOfMemory` may come in place
+/// agrees with that state. On every host each turn and each answered call was the next one of the run, nothing else was
+/// done to the host, and its journal and its count of answered calls grew by these calls. `HostFault` comes only where the host's count of faults rose; `OutOfMemory` may come in place
 /// of any other outcome of a start. After either, what the program wrote is a front of what the machine wrote after
 /// some number of turns, and the host is used no more.
 ///
@@ -82,6 +87,7 @@ pub fn bascule<H: Host, F: Shelf>(
 ) -> Outcome
     requires fresh { IsFreshWorld (H.objects host.old) (H.answered_count host.old) }
     ensures headline { Headline result (command_of (words_of words.now)) (H.objects host.old) (H.told host.old) (H.objects host.new) (H.told host.new) }
+    ensures history { Historic result (command_of (words_of words.now)) (H.objects host.old) (H.told host.old) (H.journal host.old) (H.answered_count host.old) (H.objects host.new) (H.told host.new) (H.journal host.new) (H.answered_count host.new) }
     ensures fault { result ≡ Outcome.HostFault → Rose (H.fault_count host.old) (H.fault_count host.new) }
     ensures assembly { Assembly result (command_of (words_of words.now)) (F.files shelf.old) (F.files shelf.new) }
     ensures shelf_fault { result ≡ Outcome.ShelfFault → Rose (F.fault_count shelf.old) (F.fault_count shelf.new) }

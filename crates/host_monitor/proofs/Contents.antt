@@ -18,11 +18,11 @@ pub tells_or : {A : Type 0} (told : Option A) (otherwise : A) → IfSome told (�
 tells_or None otherwise = tt
 tells_or (Some x) otherwise = refl
 
-pub tells_some : (t : Told) → Tells t (some_contents t)
-tells_some t = record { files = tells_or t.files empty; input = tells_or t.input []; output = tells_or t.output []; errors = tells_or t.errors [] }
+pub Tells-some_contents : (t : Told) → Tells t (some_contents t)
+Tells-some_contents t = record { files = tells_or t.files empty; input = tells_or t.input []; output = tells_or t.output []; errors = tells_or t.errors [] }
 
-pub stays_as_it_is : (t : Told) → StaysTold t t
-stays_as_it_is t = record { files = refl; input = refl; output = refl; errors = refl }
+pub StaysTold-same : (t : Told) → StaysTold t t
+StaysTold-same t = record { files = refl; input = refl; output = refl; errors = refl }
 
 -- The bytes that came to what was written are told, where what was written is.
 pub tells_with_text : (told : Option (List ℕ)) (bytes : List ℕ) → IfSome (with_text told bytes) (λ x. x ≡ unwrap_or told [] ++ bytes)
@@ -73,5 +73,5 @@ known_length {told = None} {name} {size = Some n} f = record {
   fact = ap (option_map length) (file_of-with_file name (replicate n 0) empty) ∙ ap (λ m. Some m) (length-replicate n 0);
 }
 
-pub tells_known : (t : Told) {P : Files → Type 0} (k : Known t.files P) → Tells t (record (some_contents t) { files = k.files })
-tells_known t k = record { files = k.tells; input = tells_or t.input []; output = tells_or t.output []; errors = tells_or t.errors [] }
+pub Tells-known : (t : Told) {P : Files → Type 0} (k : Known t.files P) → Tells t (record (some_contents t) { files = k.files })
+Tells-known t k = record { files = k.tells; input = tells_or t.input []; output = tells_or t.output []; errors = tells_or t.errors [] }

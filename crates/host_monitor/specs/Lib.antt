@@ -1,3 +1,3 @@
 pub mod Edges
-pub mod Serving
+pub mod Answers
 pub mod Monitor

@@ -29,7 +29,8 @@ impl<I: Source> Model for Console<I> {
 
     ghost view = { λ console. console.source };
 
-    ghost invariant = { λ console. console.ended ≡ true → IfSome (I.left console.source) (λ bytes. bytes ≡ []) };
+    ghost invariant = { λ console.
+        console.ended ≡ true → IfSome (I.left console.source) (λ bytes. bytes ≡ []) };
 }
 
 impl<I: Source> Console<I> {
@@ -71,8 +72,10 @@ impl<I: Source> Console<I> {
     pub(crate) fn take_all(&mut self, alloc: Global, count: usize) -> Result<Items<u8>, EdgeError>
         ensures asked { IfOk result (λ bytes.
             TakesAsked (I.left self.old) count bytes (I.left self.new)) }
-        ensures part { IsPartTaken (I.left self.old) (I.left self.new) (without_front (I.left self.old) count) }
-        ensures cause { HasCause EdgeError.Failed (I.fault_count self.old) (I.fault_count self.new) result }
+        ensures part { IsPartTaken (I.left self.old) (I.left self.new)
+            (without_front (I.left self.old) count) }
+        ensures cause { HasCause EdgeError.Failed
+            (I.fault_count self.old) (I.fault_count self.new) result }
         ensures unfaulted { OnOk result (I.fault_count self.new ≡ I.fault_count self.old) }
         ensures want { IsErrOf result EdgeError.Memory
             → I.fault_count self.new ≡ I.fault_count self.old }

@@ -23,7 +23,8 @@ pub(crate) trait Edges {
         ensures part { IsPartWritten (told self.old).output (told self.new).output
             (with_text (told self.old).output bytes.now) }
         ensures rest { told self.new ≡ record (told self.old) { output = (told self.new).output } }
-        ensures cause { HasCause EdgeError.Failed (fault_count self.old) (fault_count self.new) result }
+        ensures cause { HasCause EdgeError.Failed
+            (fault_count self.old) (fault_count self.new) result }
         ensures unfaulted { OnOk result (fault_count self.new ≡ fault_count self.old) }
         ensures want { IsErrOf result EdgeError.Memory
             → fault_count self.new ≡ fault_count self.old };
@@ -35,7 +36,8 @@ pub(crate) trait Edges {
         ensures part { IsPartWritten (told self.old).errors (told self.new).errors
             (with_text (told self.old).errors bytes.now) }
         ensures rest { told self.new ≡ record (told self.old) { errors = (told self.new).errors } }
-        ensures cause { HasCause EdgeError.Failed (fault_count self.old) (fault_count self.new) result }
+        ensures cause { HasCause EdgeError.Failed
+            (fault_count self.old) (fault_count self.new) result }
         ensures unfaulted { OnOk result (fault_count self.new ≡ fault_count self.old) }
         ensures want { IsErrOf result EdgeError.Memory
             → fault_count self.new ≡ fault_count self.old };
@@ -47,7 +49,8 @@ pub(crate) trait Edges {
         ensures part { IsPartTaken (told self.old).input (told self.new).input
             (without_front (told self.old).input count) }
         ensures rest { told self.new ≡ record (told self.old) { input = (told self.new).input } }
-        ensures cause { HasCause EdgeError.Failed (fault_count self.old) (fault_count self.new) result }
+        ensures cause { HasCause EdgeError.Failed
+            (fault_count self.old) (fault_count self.new) result }
         ensures unfaulted { OnOk result (fault_count self.new ≡ fault_count self.old) }
         ensures want { IsErrOf result EdgeError.Memory
             → fault_count self.new ≡ fault_count self.old };
@@ -56,7 +59,8 @@ pub(crate) trait Edges {
     fn file_length(&mut self, name: &[u8]) -> Result<Option<u64>, EdgeError>
         ensures found { IfOk result (FindsLength (told self.old).files name.now) }
         ensures same { told self.new ≡ told self.old }
-        ensures cause { HasCause EdgeError.Failed (fault_count self.old) (fault_count self.new) result }
+        ensures cause { HasCause EdgeError.Failed
+            (fault_count self.old) (fault_count self.new) result }
         ensures unfaulted { OnOk result (fault_count self.new ≡ fault_count self.old) }
         ensures want { IsErrOf result EdgeError.Memory
             → fault_count self.new ≡ fault_count self.old };
@@ -71,7 +75,8 @@ pub(crate) trait Edges {
     ) -> Result<Items<u8>, EdgeError>
         ensures read { IfOk result (ReadsFile (told self.old).files name.now offset count) }
         ensures same { told self.new ≡ told self.old }
-        ensures cause { HasCause EdgeError.Failed (fault_count self.old) (fault_count self.new) result }
+        ensures cause { HasCause EdgeError.Failed
+            (fault_count self.old) (fault_count self.new) result }
         ensures unfaulted { OnOk result (fault_count self.new ≡ fault_count self.old) }
         ensures want { IsErrOf result EdgeError.Memory
             → fault_count self.new ≡ fault_count self.old };

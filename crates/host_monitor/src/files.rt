@@ -16,7 +16,8 @@ pub(crate) fn read_file<E: Store>(
 ) -> Result<Items<u8>, EdgeError>
     ensures read { IfOk result (ReadsFile (E.files store.old) name.now offset count) }
     ensures same { E.files store.new ≡ E.files store.old }
-    ensures cause { HasCause EdgeError.Failed (E.fault_count store.old) (E.fault_count store.new) result }
+    ensures cause { HasCause EdgeError.Failed
+        (E.fault_count store.old) (E.fault_count store.new) result }
     ensures unfaulted { OnOk result (E.fault_count store.new ≡ E.fault_count store.old) }
     ensures want { IsErrOf result EdgeError.Memory
         → E.fault_count store.new ≡ E.fault_count store.old }

@@ -10,7 +10,8 @@ pub(crate) fn give_all<S: Sink>(sink: &mut S, bytes: &[u8]) -> Result<(), EdgeEr
     ensures all { OnOk result (S.given sink.new ≡ with_text (S.given sink.old) bytes.now) }
     ensures part { IsPartWritten
         (S.given sink.old) (S.given sink.new) (with_text (S.given sink.old) bytes.now) }
-    ensures cause { HasCause EdgeError.Failed (S.fault_count sink.old) (S.fault_count sink.new) result }
+    ensures cause { HasCause EdgeError.Failed
+        (S.fault_count sink.old) (S.fault_count sink.new) result }
     ensures unfaulted { OnOk result (S.fault_count sink.new ≡ S.fault_count sink.old) }
     ensures want { IsErrOf result EdgeError.Memory
         → S.fault_count sink.new ≡ S.fault_count sink.old }

@@ -3,7 +3,7 @@ ghost use Rattle.bas_edge.specs.Faults.{HasCause};
 ghost use Rattle.abi_calls.specs.Abi.{IsTaken};
 ghost use Rattle.abi_calls.specs.Failing.{Leaves};
 ghost use Rattle.host_objects.specs.Objects.{objects_of};
-ghost use Rattle.host_monitor.specs.Serving.{Serves};
+ghost use Rattle.host_monitor.specs.Answers.{IsAnswered};
 
 use crate::edges::Edges;
 use crate::streams::{open_stream, read_stream, stream_length, write_stream};
@@ -21,11 +21,13 @@ pub(crate) fn serve<W: Edges, N: Numbers + Drop>(
     call: &Call,
 ) -> Result<Reply, EdgeError>
     requires { IsTaken (objects_of objects.old) call.now }
-    ensures row { IfOk result (λ reply. Serves (objects_of objects.old) (W.told outside.old)
+    ensures row { IfOk result (λ reply. IsAnswered (objects_of objects.old) (W.told outside.old)
         call.now reply (objects_of objects.new) (W.told outside.new)) }
-    ensures left { Leaves (objects_of objects.old) call.now (W.told outside.old) (W.told outside.new) }
+    ensures left { Leaves (objects_of objects.old) call.now
+        (W.told outside.old) (W.told outside.new) }
     ensures same { OnErr result (objects_of objects.new ≡ objects_of objects.old) }
-    ensures cause { HasCause EdgeError.Failed (W.fault_count outside.old) (W.fault_count outside.new) result }
+    ensures cause { HasCause EdgeError.Failed
+        (W.fault_count outside.old) (W.fault_count outside.new) result }
     ensures unfaulted { OnOk result (W.fault_count outside.new ≡ W.fault_count outside.old) }
     ensures want { IsErrOf result EdgeError.Memory
         → W.fault_count outside.new ≡ W.fault_count outside.old }

@@ -6,7 +6,7 @@ ghost use Rattle.abi_calls.specs.Objects.{object_at};
 ghost use Rattle.abi_calls.specs.Abi.{is_file};
 ghost use Rattle.abi_calls.specs.Failing.{Leaves};
 ghost use Rattle.host_objects.specs.Objects.{objects_of};
-ghost use Rattle.host_monitor.specs.Serving.{Serves};
+ghost use Rattle.host_monitor.specs.Answers.{IsAnswered};
 
 use crate::edges::Edges;
 use abi_calls::limits::{LONGEST_NAME, MOST_BYTES};
@@ -23,11 +23,12 @@ pub(crate) fn open_stream<W: Edges, N: Numbers + Drop>(
     outside: &mut W,
     name: &StreamName,
 ) -> Result<Reply, EdgeError>
-    ensures row { IfOk result (λ reply. Serves (objects_of objects.old) (W.told outside.old)
+    ensures row { IfOk result (λ reply. IsAnswered (objects_of objects.old) (W.told outside.old)
         (StreamOpen name.now false false) reply (objects_of objects.new) (W.told outside.new)) }
     ensures told { W.told outside.new ≡ W.told outside.old }
     ensures same { OnErr result (objects_of objects.new ≡ objects_of objects.old) }
-    ensures cause { HasCause EdgeError.Failed (W.fault_count outside.old) (W.fault_count outside.new) result }
+    ensures cause { HasCause EdgeError.Failed
+        (W.fault_count outside.old) (W.fault_count outside.new) result }
     ensures unfaulted { OnOk result (W.fault_count outside.new ≡ W.fault_count outside.old) }
     ensures want { IsErrOf result EdgeError.Memory
         → W.fault_count outside.new ≡ W.fault_count outside.old }
@@ -46,11 +47,13 @@ fn open_file<W: Edges, N: Numbers + Drop>(
     outside: &mut W,
     file: &Items<u8>,
 ) -> Result<Reply, EdgeError>
-    ensures row { IfOk result (λ reply. Serves (objects_of objects.old) (W.told outside.old)
-        (StreamOpen (File file.now) false false) reply (objects_of objects.new) (W.told outside.new)) }
+    ensures row { IfOk result (λ reply. IsAnswered (objects_of objects.old) (W.told outside.old)
+        (StreamOpen (File file.now) false false) reply
+        (objects_of objects.new) (W.told outside.new)) }
     ensures told { W.told outside.new ≡ W.told outside.old }
     ensures same { OnErr result (objects_of objects.new ≡ objects_of objects.old) }
-    ensures cause { HasCause EdgeError.Failed (W.fault_count outside.old) (W.fault_count outside.new) result }
+    ensures cause { HasCause EdgeError.Failed
+        (W.fault_count outside.old) (W.fault_count outside.new) result }
     ensures unfaulted { OnOk result (W.fault_count outside.new ≡ W.fault_count outside.old) }
     ensures want { IsErrOf result EdgeError.Memory
         → W.fault_count outside.new ≡ W.fault_count outside.old }
@@ -78,11 +81,12 @@ pub(crate) fn read_stream<W: Edges, N: Numbers + Drop>(
     offset: u64,
     count: u64,
 ) -> Result<Reply, EdgeError>
-    ensures row { IfOk result (λ reply. Serves (objects_of objects.now) (W.told outside.old)
+    ensures row { IfOk result (λ reply. IsAnswered (objects_of objects.now) (W.told outside.old)
         (StreamRead stream offset count) reply (objects_of objects.now) (W.told outside.new)) }
     ensures left { Leaves (objects_of objects.now) (StreamRead stream offset count)
         (W.told outside.old) (W.told outside.new) }
-    ensures cause { HasCause EdgeError.Failed (W.fault_count outside.old) (W.fault_count outside.new) result }
+    ensures cause { HasCause EdgeError.Failed
+        (W.fault_count outside.old) (W.fault_count outside.new) result }
     ensures unfaulted { OnOk result (W.fault_count outside.new ≡ W.fault_count outside.old) }
     ensures want { IsErrOf result EdgeError.Memory
         → W.fault_count outside.new ≡ W.fault_count outside.old }
@@ -116,11 +120,12 @@ pub(crate) fn write_stream<W: Edges, N: Numbers + Drop>(
     bytes: &[u8],
 ) -> Result<Reply, EdgeError>
     requires { is_file (object_at (objects_of objects.now) stream) ≡ false }
-    ensures row { IfOk result (λ reply. Serves (objects_of objects.now) (W.told outside.old)
+    ensures row { IfOk result (λ reply. IsAnswered (objects_of objects.now) (W.told outside.old)
         (StreamWrite stream offset bytes.now) reply (objects_of objects.now) (W.told outside.new)) }
     ensures left { Leaves (objects_of objects.now) (StreamWrite stream offset bytes.now)
         (W.told outside.old) (W.told outside.new) }
-    ensures cause { HasCause EdgeError.Failed (W.fault_count outside.old) (W.fault_count outside.new) result }
+    ensures cause { HasCause EdgeError.Failed
+        (W.fault_count outside.old) (W.fault_count outside.new) result }
     ensures unfaulted { OnOk result (W.fault_count outside.new ≡ W.fault_count outside.old) }
     ensures want { IsErrOf result EdgeError.Memory
         → W.fault_count outside.new ≡ W.fault_count outside.old }
@@ -148,11 +153,12 @@ pub(crate) fn stream_length<W: Edges, N: Numbers + Drop>(
     outside: &mut W,
     stream: u64,
 ) -> Result<Reply, EdgeError>
-    ensures row { IfOk result (λ reply. Serves (objects_of objects.now) (W.told outside.old)
+    ensures row { IfOk result (λ reply. IsAnswered (objects_of objects.now) (W.told outside.old)
         (StreamLength stream) reply (objects_of objects.now) (W.told outside.new)) }
     ensures left { Leaves (objects_of objects.now) (StreamLength stream)
         (W.told outside.old) (W.told outside.new) }
-    ensures cause { HasCause EdgeError.Failed (W.fault_count outside.old) (W.fault_count outside.new) result }
+    ensures cause { HasCause EdgeError.Failed
+        (W.fault_count outside.old) (W.fault_count outside.new) result }
     ensures unfaulted { OnOk result (W.fault_count outside.new ≡ W.fault_count outside.old) }
     ensures want { IsErrOf result EdgeError.Memory
         → W.fault_count outside.new ≡ W.fault_count outside.old }

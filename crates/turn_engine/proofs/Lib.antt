@@ -8,3 +8,4 @@ pub mod Starts
 pub mod Fronts
 pub mod Halting
 pub mod Progress
+pub mod Histories

@@ -2,3 +2,4 @@ pub mod Serves
 pub mod Halts
 pub mod Errors
 pub mod Ends
+pub mod History

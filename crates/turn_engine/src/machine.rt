@@ -6,6 +6,7 @@ ghost use Rattle.libos_state.specs.Laws.{AsksTaken};
 ghost use Rattle.libos_calls.specs.Left.{calls_left};
 ghost use Rattle.turn_engine.specs.Serves.{Serves, IsUp, MakesTurn};
 ghost use Rattle.turn_engine.specs.Ends.{EndsTurn};
+ghost use Rattle.turn_engine.specs.History.{moment, History, Broken};
 ghost use Rattle.turn_engine.specs.Halts.{Halts, HaltsTurn, StartsQuietly};
 
 use abi_calls::{Call, Host, HostError, Turned};
@@ -79,6 +80,8 @@ impl Machine {
         ensures quiet { OnOk result (StartsQuietly self.old.os (H.told host.old) self.new.os (H.told host.new)) }
         ensures halts { OnErr result (Halts self.old.os (H.objects host.old) (H.told host.old) (H.told host.new)) }
         ensures nearer { OnOk result (calls_left self.new.os < calls_left self.old.os) }
+        ensures history { OnOk result (History 0 (moment self.old.os (H.objects host.old) (H.told host.old) (H.journal host.old) (H.answered_count host.old)) (moment self.new.os (H.objects host.new) (H.told host.new) (H.journal host.new) (H.answered_count host.new))) }
+        ensures broken { OnErr result (Broken 0 (moment self.old.os (H.objects host.old) (H.told host.old) (H.journal host.old) (H.answered_count host.old)) (H.told host.new) (H.journal host.new) (H.answered_count host.new)) }
         ensures cause { HasCause EngineError.Failed (H.fault_count host.old) (H.fault_count host.new) result }
     {
         let reply = host.call(call)?;
@@ -94,6 +97,8 @@ impl Machine {
         ensures halts { OnErr result (Halts self.old.os (H.objects host.old) (H.told host.old) (H.told host.new)) }
         ensures nearer { IfOk result (λ more. more ≡ true → calls_left self.new.os < calls_left self.old.os) }
         ensures settled { IfOk result (λ more. more ≡ false → self.new.os.cont ≡ None) }
+        ensures history { OnOk result (History 0 (moment self.old.os (H.objects host.old) (H.told host.old) (H.journal host.old) (H.answered_count host.old)) (moment self.new.os (H.objects host.new) (H.told host.new) (H.journal host.new) (H.answered_count host.new))) }
+        ensures broken { OnErr result (Broken 0 (moment self.old.os (H.objects host.old) (H.told host.old) (H.journal host.old) (H.answered_count host.old)) (H.told host.new) (H.journal host.new) (H.answered_count host.new)) }
         ensures cause { HasCause EngineError.Failed (H.fault_count host.old) (H.fault_count host.new) result }
     {
         let call = pending(&self.os, alloc)?;
@@ -117,6 +122,8 @@ impl Machine {
         ensures quiet { OnOk result (StartsQuietly self.old.os (H.told host.old) self.new.os (H.told host.new)) }
         ensures halts { OnErr result (Halts self.old.os (H.objects host.old) (H.told host.old) (H.told host.new)) }
         ensures settled { OnOk result (self.new.os.cont ≡ None) }
+        ensures history { OnOk result (History 0 (moment self.old.os (H.objects host.old) (H.told host.old) (H.journal host.old) (H.answered_count host.old)) (moment self.new.os (H.objects host.new) (H.told host.new) (H.journal host.new) (H.answered_count host.new))) }
+        ensures broken { OnErr result (Broken 0 (moment self.old.os (H.objects host.old) (H.told host.old) (H.journal host.old) (H.answered_count host.old)) (H.told host.new) (H.journal host.new) (H.answered_count host.new)) }
         ensures cause { HasCause EngineError.Failed (H.fault_count host.old) (H.fault_count host.new) result }
     {
         while self.step(alloc, host)? {}
@@ -135,6 +142,8 @@ impl Machine {
         ensures serving { OnErr result (EndsTurn (H.objects host.old) TurnEnd.Served) }
         ensures turn { OnOk result (MakesTurn self.old.os (H.objects host.old) (H.told host.old) self.new.os (H.objects host.new) (H.told host.new)) }
         ensures halts { OnErr result (HaltsTurn self.old.os (H.objects host.old) (H.told host.old) (H.told host.new)) }
+        ensures history { OnOk result (History 1 (moment self.old.os (H.objects host.old) (H.told host.old) (H.journal host.old) (H.answered_count host.old)) (moment self.new.os (H.objects host.new) (H.told host.new) (H.journal host.new) (H.answered_count host.new))) }
+        ensures broken { OnErr result (Broken 1 (moment self.old.os (H.objects host.old) (H.told host.old) (H.journal host.old) (H.answered_count host.old)) (H.told host.new) (H.journal host.new) (H.answered_count host.new)) }
         ensures cause { HasCause EngineError.Failed (H.fault_count host.old) (H.fault_count host.new) result }
     {
         match host.turn() {

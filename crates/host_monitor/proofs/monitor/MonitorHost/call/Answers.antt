@@ -1,4 +1,4 @@
-use Rattle.host_monitor.specs.Serving.Serves.{By}
+use Rattle.host_monitor.specs.Answers.IsAnswered.{By}
 use Rattle.host_monitor.proofs.monitor.MonitorHost.call.Goals as goal
 
 pub returns-clause-row : goal.returns-clause-row

@@ -1,8 +1,12 @@
+use Rattle.std.proofs.Common.{refl}
 use Rattle.libos_calls.proofs.Keeps.{kept_of}
 use Rattle.turn_engine.proofs.Steps.{answer_serves}
 use Rattle.turn_engine.proofs.Starts.{quiet_step}
 use Rattle.turn_engine.proofs.Halting.{halts_call, halts_answered}
 use Rattle.turn_engine.proofs.Progress.{calls_left_pending, on_err}
+use Rattle.turn_engine.specs.History.{moment, Calls}
+use Rattle.turn_engine.proofs.Histories.{history_one, broken_here, broken_call}
+use Rattle.libos_state.specs.Answered as libos
 use Rattle.turn_engine.proofs.machine.Machine.answer.Goals as goal
 
 pub returns-in_err-reply-clause-halts : goal.returns-in_err-reply-clause-halts
@@ -30,3 +34,18 @@ returns-clause-quiet g c =
 
 pub returns-clause-nearer : goal.returns-clause-nearer
 returns-clause-nearer g c = c.in_ok-answered.ensures.nearer (calls_left_pending c.args.self.now.os c.args.call.now c.requires.asks)
+
+pub returns-in_err-reply-clause-broken : goal.returns-in_err-reply-clause-broken
+returns-in_err-reply-clause-broken g c =
+    on_err _ _ (broken_call (moment c.args.self.now.os (g.H.Host.objects c.args.host.now) (g.H.Host.told c.args.host.now) (g.H.Host.journal c.args.host.now) (g.H.Host.answered_count c.args.host.now)) c.args.call.now (g.H.Host.told c.call.new.self) (g.H.Host.journal c.call.new.self) (g.H.Host.answered_count c.call.new.self)
+    c.requires.asks c.in_err-reply.ensures.left c.in_err-reply.ensures.same_journal c.in_err-reply.ensures.same_answered)
+
+pub returns-in_err-answered-clause-broken : goal.returns-in_err-answered-clause-broken
+returns-in_err-answered-clause-broken g c =
+    on_err _ _ (broken_here 0 (moment c.args.self.now.os (g.H.Host.objects c.args.host.now) (g.H.Host.told c.args.host.now) (g.H.Host.journal c.args.host.now) (g.H.Host.answered_count c.args.host.now)) (moment (libos.answered c.args.self.now.os c.in_ok-reply.reply) (g.H.Host.objects c.call.new.self) (g.H.Host.told c.call.new.self) (g.H.Host.journal c.call.new.self) (g.H.Host.answered_count c.call.new.self)) (history_one (Calls c.args.call.now c.in_ok-reply.reply) (moment c.args.self.now.os (g.H.Host.objects c.args.host.now) (g.H.Host.told c.args.host.now) (g.H.Host.journal c.args.host.now) (g.H.Host.answered_count c.args.host.now)) (moment (libos.answered c.args.self.now.os c.in_ok-reply.reply) (g.H.Host.objects c.call.new.self) (g.H.Host.told c.call.new.self) (g.H.Host.journal c.call.new.self) (g.H.Host.answered_count c.call.new.self))
+    (record { asked = c.requires.asks; row = c.in_ok-reply.ensures.row; next = refl; kept = c.in_ok-reply.ensures.journal; counted = c.in_ok-reply.ensures.answered })))
+
+pub returns-clause-history : goal.returns-clause-history
+returns-clause-history g c =
+    history_one (Calls c.args.call.now c.in_ok-reply.reply) (moment c.args.self.now.os (g.H.Host.objects c.args.host.now) (g.H.Host.told c.args.host.now) (g.H.Host.journal c.args.host.now) (g.H.Host.answered_count c.args.host.now)) (moment c.answered.new.os (g.H.Host.objects c.call.new.self) (g.H.Host.told c.call.new.self) (g.H.Host.journal c.call.new.self) (g.H.Host.answered_count c.call.new.self))
+    (record { asked = c.requires.asks; row = c.in_ok-reply.ensures.row; next = c.in_ok-answered.ensures.value; kept = c.in_ok-reply.ensures.journal; counted = c.in_ok-reply.ensures.answered })

@@ -3,6 +3,8 @@ use Rattle.turn_engine.proofs.Serving.{serves_none, serves_then}
 use Rattle.turn_engine.proofs.Starts.{quiet_none, quiet_then}
 use Rattle.turn_engine.proofs.Halting.{halts_after}
 use Rattle.turn_engine.proofs.Progress.{on_err}
+use Rattle.turn_engine.specs.History.{moment}
+use Rattle.turn_engine.proofs.Histories.{history_none, history_then, broken_then}
 use Rattle.turn_engine.proofs.machine.Machine.boot.Goals as goal
 
 pub returns-in_err-step-clause-halts : goal.returns-in_err-step-clause-halts
@@ -18,6 +20,8 @@ loop-preserved g c =
       serves = serves_then c.args.self.now.os (g.H.Host.objects c.args.host.now) (g.H.Host.told c.args.host.now) c.loop.self.os (g.H.Host.objects c.loop.host) (g.H.Host.told c.loop.host) c.step.new.self.os (g.H.Host.objects c.step.new.host) (g.H.Host.told c.step.new.host)
           c.loop.invariant.serves c.in_ok-step.ensures.serves;
       quiet = quiet_then c.args.self.now.os (g.H.Host.told c.args.host.now) c.loop.self.os (g.H.Host.told c.loop.host) c.step.new.self.os (g.H.Host.told c.step.new.host) c.loop.invariant.quiet c.in_ok-step.ensures.quiet;
+      history = history_then 0 0 (moment c.args.self.now.os (g.H.Host.objects c.args.host.now) (g.H.Host.told c.args.host.now) (g.H.Host.journal c.args.host.now) (g.H.Host.answered_count c.args.host.now)) (moment c.loop.self.os (g.H.Host.objects c.loop.host) (g.H.Host.told c.loop.host) (g.H.Host.journal c.loop.host) (g.H.Host.answered_count c.loop.host)) (moment c.step.new.self.os (g.H.Host.objects c.step.new.host) (g.H.Host.told c.step.new.host) (g.H.Host.journal c.step.new.host) (g.H.Host.answered_count c.step.new.host))
+          c.loop.invariant.history c.in_ok-step.ensures.history;
       later = omega arith;
     }
 
@@ -34,5 +38,16 @@ pub loop-init : goal.loop-init
 loop-init g c = record {
   serves = serves_none c.args.self.now.os (g.H.Host.objects c.args.host.now) (g.H.Host.told c.args.host.now) c.requires.fits;
   quiet = quiet_none c.args.self.now.os (g.H.Host.told c.args.host.now);
+  history = history_none (moment c.args.self.now.os (g.H.Host.objects c.args.host.now) (g.H.Host.told c.args.host.now) (g.H.Host.journal c.args.host.now) (g.H.Host.answered_count c.args.host.now));
   later = omega arith;
 }
+
+pub returns-in_err-step-clause-broken : goal.returns-in_err-step-clause-broken
+returns-in_err-step-clause-broken g c =
+    on_err _ _ (broken_then 0 0 (moment c.args.self.now.os (g.H.Host.objects c.args.host.now) (g.H.Host.told c.args.host.now) (g.H.Host.journal c.args.host.now) (g.H.Host.answered_count c.args.host.now)) (moment c.loop.self.os (g.H.Host.objects c.loop.host) (g.H.Host.told c.loop.host) (g.H.Host.journal c.loop.host) (g.H.Host.answered_count c.loop.host)) (g.H.Host.told c.step.new.host) (g.H.Host.journal c.step.new.host) (g.H.Host.answered_count c.step.new.host)
+    c.loop.invariant.history c.in_err-step.ensures.broken)
+
+pub returns-clause-history : goal.returns-clause-history
+returns-clause-history g c =
+    history_then 0 0 (moment c.args.self.now.os (g.H.Host.objects c.args.host.now) (g.H.Host.told c.args.host.now) (g.H.Host.journal c.args.host.now) (g.H.Host.answered_count c.args.host.now)) (moment c.loop.self.os (g.H.Host.objects c.loop.host) (g.H.Host.told c.loop.host) (g.H.Host.journal c.loop.host) (g.H.Host.answered_count c.loop.host)) (moment c.step.new.self.os (g.H.Host.objects c.step.new.host) (g.H.Host.told c.step.new.host) (g.H.Host.journal c.step.new.host) (g.H.Host.answered_count c.step.new.host))
+    c.loop.invariant.history c.in_ok-step.ensures.history

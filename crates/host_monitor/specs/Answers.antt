@@ -6,6 +6,6 @@ use Rattle.abi_calls.specs.World.{Told}
 use Rattle.abi_calls.specs.Abi.{Answers}
 
 -- A call is answered, for some contents that are as told: `Answers`, not taken apart by searches.
-pub data Serves (o : Objects) (told : Told) (call : Call) (reply : Reply)
+pub data IsAnswered (o : Objects) (told : Told) (call : Call) (reply : Reply)
     (o' : Objects) (told' : Told) : Type 0 where
-  By : Answers o told call reply o' told' → Serves o told call reply o' told'
+  By : Answers o told call reply o' told' → IsAnswered o told call reply o' told'
