@@ -1,0 +1,10 @@
+pub mod Parts
+pub mod Accepted
+pub mod Run
+pub mod Bytes
+pub mod Numbers
+pub mod Addresses
+pub mod Headers
+pub mod Placed
+pub mod Loaded
+pub mod Texts

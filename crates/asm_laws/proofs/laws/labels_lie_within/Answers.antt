@@ -1,0 +1,5 @@
+use Rattle.asm_laws.proofs.Texts.{definition_of-within}
+use Rattle.asm_laws.proofs.laws.labels_lie_within.Goals as goal
+
+pub returns : goal.returns
+returns c = definition_of-within
