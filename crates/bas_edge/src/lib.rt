@@ -18,8 +18,6 @@ mod shelf;
 mod sink;
 mod source;
 mod store;
-#[cfg(test)]
-mod tests;
 
 pub use byte_sink::ByteSink;
 pub use byte_source::ByteSource;

@@ -10,6 +10,3 @@ pub use cursor::{Cursor, FieldError, put_u64};
 pub use laws::{one_field, one_spelling};
 pub use numbers::{decimal, hex_text, hexadecimal, read_decimal};
 pub use pieces::{write_bytes, write_u64};
-
-#[cfg(test)]
-mod tests;

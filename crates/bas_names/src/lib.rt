@@ -55,6 +55,3 @@ impl From<AllocError> for NameError {
         NameError::Memory
     }
 }
-
-#[cfg(test)]
-mod tests;

@@ -87,6 +87,3 @@ pub fn assemble(alloc: Global, text: &[u8]) -> Result<Items<u8>, AsmError>
     let bytes = program::bytes_of(alloc, text, &labels)?;
     Ok(file::file_of(alloc, bytes.as_slice())?)
 }
-
-#[cfg(test)]
-mod tests;

@@ -1,7 +1,7 @@
 //! That calls succeed with ample memory, and that a chosen call fails: no clause can say the one, and each form shows the other once.
 ghost use Rattle.bas_edge.specs.Files.{HasFile};
 
-use crate::{
+use bas_edge::{
     ByteSink, ByteSource, CalmShelf, CalmSink, CalmSource, EdgeError, Failed, Fetched, MapShelf,
     MapStore, Shelf, Sink, Source, Store, fetch,
 };

@@ -1,4 +1,4 @@
-use super::*;
+use rv_asm::{AsmCause, AsmError, assemble};
 use std::test::Fail;
 
 #[test]

@@ -1,7 +1,8 @@
 ghost use Rattle.std.specs.Prelude.{◌≡◌, IfOk};
 
-use super::*;
-use std::alloc::Global;
+use bas_items::Items;
+use bas_names::{NameError, Rule, StreamName, escape, substitute};
+use std::alloc::{AllocError, Global};
 use std::test::Fail;
 
 fn rule(alloc: Global, from: &[u8], to: Option<&[u8]>) -> Result<Rule, AllocError> {

@@ -1,22 +1,32 @@
-use super::*;
+use bas_fields::{
+    Cursor, FieldError, decimal, hex_text, hexadecimal, put_u64, read_decimal, write_u64,
+};
+use std::alloc::Global;
+use std::fmt::Debug;
+use std::process::Abort;
 use std::test::Fail;
+
+/// Stops where another answer came.
+fn want<T: PartialEq + Debug + Drop>(rt: &impl Abort, answer: T, wanted: T) {
+    assert_eq!(rt; answer, wanted);
+}
 
 #[test]
 fn fields_in_turn(rt: HostRuntime) -> Result<(), Fail> {
     let mut bytes = vec![in rt.alloc(); 9]?;
     put_u64(&mut bytes, 0x0102_0304_0506_0708)?;
-    assert_eq!(rt; bytes.as_slice(), [9, 8, 7, 6, 5, 4, 3, 2, 1].as_slice());
     bytes.extend_from_slice(b"end")?;
+    want(&rt, bytes.as_slice(), b"\x09\x08\x07\x06\x05\x04\x03\x02\x01end");
     let mut cursor = Cursor::new(&bytes);
-    assert_eq!(rt; cursor.take_u8()?, 9);
-    assert_eq!(rt; cursor.take_u64()?, 0x0102_0304_0506_0708);
-    assert_eq!(rt; cursor.end(), Err(FieldError::Rest));
-    assert_eq!(rt; cursor.take_bytes(4).err(), Some(FieldError::Short));
-    assert_eq!(rt; cursor.take_u64(), Err(FieldError::Short));
-    assert_eq!(rt; cursor.take_bytes(0)?, b"".as_slice());
-    assert_eq!(rt; cursor.take_bytes(3)?, b"end".as_slice());
-    assert_eq!(rt; cursor.take_u8(), Err(FieldError::Short));
-    assert_eq!(rt; cursor.end(), Ok(()));
+    want(&rt, cursor.take_u8(), Ok(9));
+    want(&rt, cursor.take_u64(), Ok(0x0102_0304_0506_0708));
+    want(&rt, cursor.end(), Err(FieldError::Rest));
+    want(&rt, cursor.take_bytes(4), Err(FieldError::Short));
+    want(&rt, cursor.take_u64(), Err(FieldError::Short));
+    want(&rt, cursor.take_bytes(0), Ok(b"".as_slice()));
+    want(&rt, cursor.take_bytes(3), Ok(b"end".as_slice()));
+    want(&rt, cursor.take_u8(), Err(FieldError::Short));
+    want(&rt, cursor.end(), Ok(()));
     Ok(())
 }
 
