@@ -3,8 +3,11 @@ use crate::current::CurrentFolder;
 use crate::folder::Folder;
 use crate::streams::{Reading, Writing};
 use bas_edge::{EdgeError, Failed, Shelf, Sink, Source, Store};
+use std::fmt::Debug;
 use std::fs;
 use std::io::{self, ErrorKind, Read};
+use std::process::Abort;
+use std::rt::Files;
 use std::test::Fail;
 
 /// A reader that is interrupted so many times, and then at its end.
@@ -23,107 +26,113 @@ impl Read for Interrupted {
     }
 }
 
+/// Stops where another answer came.
+fn want<T: PartialEq + Debug + Drop>(rt: &impl Abort, answer: T, wanted: T) {
+    assert_eq!(rt; answer, wanted);
+}
+
+/// Stops where the system has other bytes in the file.
+fn want_file<R: Abort + AllocGlobal + Files>(
+    rt: &R,
+    path: &str,
+    wanted: &[u8],
+) -> Result<(), Fail> {
+    let bytes = fs::read(rt, path)?;
+    want(rt, bytes.as_slice(), wanted);
+    Ok(())
+}
+
 #[test]
 fn sources_take_what_is_read(rt: HostRuntime) {
     let mut buffer = [0; 4];
     let mut source = Reading::new(b"hi".as_slice());
-    assert_eq!(rt; source.take(&mut buffer), Ok(2));
-    assert_eq!(rt; buffer[..2], b"hi"[..]);
-    assert_eq!(rt; source.take(&mut buffer), Ok(0));
-    assert_eq!(rt; source.faults(), 0);
+    want(&rt, source.take(&mut buffer), Ok(2));
+    want(&rt, buffer, *b"hi\0\0");
+    want(&rt, source.take(&mut buffer), Ok(0));
+    want(&rt, source.faults(), 0);
     let mut patient = Reading::new(Interrupted(7));
-    assert_eq!(rt; patient.take(&mut buffer), Ok(0));
-    assert_eq!(rt; patient.faults(), 0);
+    want(&rt, patient.take(&mut buffer), Ok(0));
+    want(&rt, patient.faults(), 0);
     let mut failing = Reading::new(Interrupted(100_000));
-    assert_eq!(rt; failing.take(&mut buffer), Err(Failed));
-    assert_eq!(rt; failing.faults(), 1);
+    want(&rt, failing.take(&mut buffer), Err(Failed));
+    want(&rt, failing.faults(), 1);
 }
 
 #[test]
 fn sinks_give_what_is_written(rt: HostRuntime) {
     let mut room = [0; 3];
     let mut sink = Writing::new(room.as_mut_slice());
-    assert_eq!(rt; sink.give(b"hi"), Ok(2));
-    assert_eq!(rt; sink.give(b"!!"), Ok(1));
-    assert_eq!(rt; sink.give(b""), Ok(0));
-    assert_eq!(rt; sink.faults(), 0);
-    assert_eq!(rt; sink.give(b"?"), Err(EdgeError::Failed));
-    assert_eq!(rt; sink.faults(), 1);
+    want(&rt, sink.give(b"hi"), Ok(2));
+    want(&rt, sink.give(b"!!"), Ok(1));
+    want(&rt, sink.give(b""), Ok(0));
+    want(&rt, sink.faults(), 0);
+    want(&rt, sink.give(b"?"), Err(EdgeError::Failed));
+    want(&rt, sink.faults(), 1);
 }
 
 #[test]
 fn files_lie_in_the_folder(rt: HostRuntime) -> Result<(), Fail> {
     let mut folder = Folder::new(rt.alloc(), &rt)?;
     let (name, other) = (b"/bin/hi", b"../a\0\xff");
-    assert_eq!(rt; folder.length(name)?, None);
-    folder.create(name)?;
-    assert_eq!(rt;
-        fs::read(&rt, "root/%2Fbin%2Fhi")?.as_slice(),
-        b"".as_slice()
-    );
-    folder.write_at(name, 2, b"hi")?;
-    assert_eq!(rt; folder.length(name)?, Some(4));
+    want(&rt, folder.length(name), Ok(None));
+    want(&rt, folder.create(name), Ok(()));
+    want_file(&rt, "root/%2Fbin%2Fhi", b"")?;
+    want(&rt, folder.write_at(name, 2, b"hi"), Ok(()));
+    want(&rt, folder.length(name), Ok(Some(4)));
     let mut buffer = [9; 3];
-    folder.read_at(name, 1, &mut buffer)?;
-    assert_eq!(rt; buffer, [0, b'h', b'i']);
-    folder.set_length(name, 3)?;
-    folder.rename(name, other)?;
-    assert_eq!(rt;
-        fs::read(&rt, "root/%2E%2E%2Fa%00%FF")?.as_slice(),
-        b"\0\0h".as_slice()
-    );
-    assert_eq!(rt; folder.length(name)?, None);
-    folder.remove(other)?;
-    assert_eq!(rt; folder.length(other)?, None);
-    assert_eq!(rt; folder.faults(), 0);
+    want(&rt, folder.read_at(name, 1, &mut buffer), Ok(()));
+    want(&rt, buffer, [0, b'h', b'i']);
+    want(&rt, folder.set_length(name, 3), Ok(()));
+    want(&rt, folder.rename(name, other), Ok(()));
+    want_file(&rt, "root/%2E%2E%2Fa%00%FF", b"\0\0h")?;
+    want(&rt, folder.length(name), Ok(None));
+    want(&rt, folder.remove(other), Ok(()));
+    want(&rt, folder.length(other), Ok(None));
+    want(&rt, folder.faults(), 0);
     fs::remove_dir(&rt, "root")?;
     Ok(())
 }
 
 #[test]
 fn conditions_found_untrue_are_faults(rt: HostRuntime) -> Result<(), Fail> {
+    let failed = Err(EdgeError::Failed);
     let mut folder = Folder::new(rt.alloc(), &rt)?;
     let mut buffer = [0; 3];
-    folder.create(b"here")?;
-    folder.write_at(b"here", 0, b"ab")?;
-    assert_eq!(rt; folder.create(b"here"), Err(EdgeError::Failed));
-    assert_eq!(rt;
-        folder.read_at(b"here", 0, &mut buffer),
-        Err(EdgeError::Failed)
-    );
-    assert_eq!(rt;
-        folder.read_at(b"gone", 0, &mut buffer),
-        Err(EdgeError::Failed)
-    );
-    assert_eq!(rt; folder.write_at(b"gone", 0, b"x"), Err(EdgeError::Failed));
-    assert_eq!(rt; folder.remove(b"gone"), Err(EdgeError::Failed));
-    assert_eq!(rt; folder.rename(b"gone", b"here"), Err(EdgeError::Failed));
-    assert_eq!(rt; folder.set_length(b"gone", 1), Err(EdgeError::Failed));
-    assert_eq!(rt; folder.faults(), 7);
-    assert_eq!(rt; folder.length(b"here")?, Some(2));
-    folder.remove(b"here")?;
+    want(&rt, folder.create(b"here"), Ok(()));
+    want(&rt, folder.write_at(b"here", 0, b"ab"), Ok(()));
+    want(&rt, folder.create(b"here"), failed);
+    want(&rt, folder.read_at(b"here", 0, &mut buffer), failed);
+    want(&rt, folder.read_at(b"gone", 0, &mut buffer), failed);
+    want(&rt, folder.write_at(b"gone", 0, b"x"), failed);
+    want(&rt, folder.remove(b"gone"), failed);
+    want(&rt, folder.rename(b"gone", b"here"), failed);
+    want(&rt, folder.set_length(b"gone", 1), failed);
+    want(&rt, folder.faults(), 7);
+    want(&rt, folder.length(b"here"), Ok(Some(2)));
+    want(&rt, folder.remove(b"here"), Ok(()));
     fs::remove_dir(&rt, "root")?;
     Ok(())
 }
 
 #[test]
 fn files_lie_in_the_current_folder(rt: HostRuntime) -> Result<(), Fail> {
+    let failed = Err(EdgeError::Failed);
     let mut shelf = CurrentFolder::new(&rt);
     let name = "text.s";
     let mut buffer = [9; 3];
-    assert_eq!(rt; shelf.length(name)?, None);
-    assert_eq!(rt; shelf.read_at(name, 0, &mut buffer), Err(EdgeError::Failed));
-    shelf.append(name, b"ab")?;
-    shelf.append(name, b"cd")?;
-    assert_eq!(rt; fs::read(&rt, name)?.as_slice(), b"abcd".as_slice());
-    assert_eq!(rt; shelf.length(name)?, Some(4));
-    shelf.read_at(name, 1, &mut buffer)?;
-    assert_eq!(rt; buffer, *b"bcd");
-    shelf.replace(name, b"xyz")?;
-    assert_eq!(rt; fs::read(&rt, name)?.as_slice(), b"xyz".as_slice());
-    assert_eq!(rt; shelf.replace("no/folder", b""), Err(EdgeError::Failed));
-    assert_eq!(rt; shelf.length("."), Err(EdgeError::Failed));
-    assert_eq!(rt; shelf.faults(), 3);
+    want(&rt, shelf.length(name), Ok(None));
+    want(&rt, shelf.read_at(name, 0, &mut buffer), failed);
+    want(&rt, shelf.append(name, b"ab"), Ok(()));
+    want(&rt, shelf.append(name, b"cd"), Ok(()));
+    want_file(&rt, name, b"abcd")?;
+    want(&rt, shelf.length(name), Ok(Some(4)));
+    want(&rt, shelf.read_at(name, 1, &mut buffer), Ok(()));
+    want(&rt, buffer, *b"bcd");
+    want(&rt, shelf.replace(name, b"xyz"), Ok(()));
+    want_file(&rt, name, b"xyz")?;
+    want(&rt, shelf.replace("no/folder", b""), failed);
+    want(&rt, shelf.length("."), Err(EdgeError::Failed));
+    want(&rt, shelf.faults(), 3);
     fs::remove_file(&rt, name)?;
     Ok(())
 }

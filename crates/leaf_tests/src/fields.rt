@@ -1,7 +1,6 @@
 use bas_fields::{
     Cursor, FieldError, decimal, hex_text, hexadecimal, put_u64, read_decimal, write_u64,
 };
-use std::alloc::Global;
 use std::fmt::Debug;
 use std::process::Abort;
 use std::test::Fail;
@@ -16,7 +15,11 @@ fn fields_in_turn(rt: HostRuntime) -> Result<(), Fail> {
     let mut bytes = vec![in rt.alloc(); 9]?;
     put_u64(&mut bytes, 0x0102_0304_0506_0708)?;
     bytes.extend_from_slice(b"end")?;
-    want(&rt, bytes.as_slice(), b"\x09\x08\x07\x06\x05\x04\x03\x02\x01end");
+    want(
+        &rt,
+        bytes.as_slice(),
+        b"\x09\x08\x07\x06\x05\x04\x03\x02\x01end",
+    );
     let mut cursor = Cursor::new(&bytes);
     want(&rt, cursor.take_u8(), Ok(9));
     want(&rt, cursor.take_u64(), Ok(0x0102_0304_0506_0708));
@@ -34,20 +37,23 @@ fn fields_in_turn(rt: HostRuntime) -> Result<(), Fail> {
 fn a_field_in_pieces(rt: HostRuntime) {
     let mut pieces = [0; 9];
     let n = 0x0102_0304_0506_0708;
-    assert_eq!(rt; write_u64(&mut pieces[..3], n, 0), 3);
-    assert_eq!(rt; write_u64(&mut pieces[3..], n, 3), 5);
-    assert_eq!(rt; write_u64(&mut pieces[8..], n, 8), 0);
-    assert_eq!(rt; pieces, [8, 7, 6, 5, 4, 3, 2, 1, 0]);
+    want(&rt, write_u64(&mut pieces[..3], n, 0), 3);
+    want(&rt, write_u64(&mut pieces[3..], n, 3), 5);
+    want(&rt, write_u64(&mut pieces[8..], n, 8), 0);
+    want(&rt, pieces, [8, 7, 6, 5, 4, 3, 2, 1, 0]);
 }
 
 #[test]
-fn seven_bytes_are_too_few(rt: HostRuntime) -> Result<(), Fail> {
+fn seven_bytes_are_too_few(rt: HostRuntime) {
     let mut cursor = Cursor::new(&[1, 2, 3, 4, 5, 6, 7]);
-    assert_eq!(rt; cursor.take_u64(), Err(FieldError::Short));
-    assert_eq!(rt; cursor.left(), 7);
-    assert_eq!(rt; cursor.take_bytes(7)?, [1, 2, 3, 4, 5, 6, 7].as_slice());
-    assert_eq!(rt; cursor.end(), Ok(()));
-    Ok(())
+    want(&rt, cursor.take_u64(), Err(FieldError::Short));
+    want(&rt, cursor.left(), 7);
+    want(
+        &rt,
+        cursor.take_bytes(7),
+        Ok([1, 2, 3, 4, 5, 6, 7].as_slice()),
+    );
+    want(&rt, cursor.end(), Ok(()));
 }
 
 #[test]
@@ -63,14 +69,19 @@ fn numbers_as_text(rt: HostRuntime) -> Result<(), Fail> {
         (u64::MAX, b"18446744073709551615", b"ffffffffffffffff"),
     ];
     for (number, decimal_digits, hexadecimal_digits) in cases {
-        assert_eq!(rt; decimal(alloc, number)?.as_slice(), decimal_digits);
-        assert_eq!(rt; hexadecimal(alloc, number)?.as_slice(), hexadecimal_digits);
+        want(&rt, decimal(alloc, number)?.as_slice(), decimal_digits);
+        want(
+            &rt,
+            hexadecimal(alloc, number)?.as_slice(),
+            hexadecimal_digits,
+        );
     }
-    assert_eq!(rt;
+    want(
+        &rt,
         hex_text(alloc, &[0x00, 0x9a, 0xff])?.as_slice(),
-        b"009aff".as_slice()
+        b"009aff",
     );
-    assert_eq!(rt; hex_text(alloc, &[])?.as_slice(), b"".as_slice());
+    want(&rt, hex_text(alloc, &[])?.as_slice(), b"");
     Ok(())
 }
 
