@@ -12,7 +12,7 @@ use Rattle.rv_asm.specs.declared.statement.Statement.TheVariants.{LoadNumber}
 use Rattle.rv_asm.specs.Encoding.{limit, instr, low_part, high_part, is_short, two_instructions, instructions_of, fits_word, bytes_of}
 use Rattle.asm_laws.proofs.Parts.{low-near, low-far, low-under, low-over, high-near, high-far, high-last, high-over, high-first, high-under, by_half}
 
-low-fits : (n : ℤ) → is_signed_by (2 ^ 11) (low_part n) ≡ true
+pub low-fits : (n : ℤ) → is_signed_by (2 ^ 11) (low_part n) ≡ true
 low-fits (pos a) =
     by_half a (λ c. ap (is_signed_by (2 ^ 11)) (low-near a c) ∙ lt-ltb (a % 4096) 2048 c)
     (λ c. ap (is_signed_by (2 ^ 11)) (low-far a c) ∙ lt-ltb (4095 - a % 4096) 2048 (omega arith))
@@ -36,7 +36,7 @@ under-fits : (a : ℕ) → a < 2 ^ 31 → a % 4096 < 2048 → (a < 4096) ⊎ (40
 under-fits a h c (inl small) = ap (is_immediate (U 0x37)) (high-first a small c) ∙ refl
 under-fits a h c (inr big) = ap (is_immediate (U 0x37)) (high-under a h big c) ∙ upper-neg (a - a % 4096 - 1) (omega arith) (omega arith)
 
-high-fits : (n : ℤ) → is_signed_by (2 ^ 31) n ≡ true → is_immediate (U 0x37) (high_part n) ≡ true
+pub high-fits : (n : ℤ) → is_signed_by (2 ^ 31) n ≡ true → is_immediate (U 0x37) (high_part n) ≡ true
 high-fits (pos a) h =
     let below = ltb-true a (2 ^ 31) h in
     by_half a (λ c. ap (is_immediate (U 0x37)) (high-near a below c) ∙ upper-pos (a - a % 4096) (omega arith) (omega arith))

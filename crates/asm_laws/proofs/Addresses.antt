@@ -23,14 +23,14 @@ use Rattle.asm_laws.proofs.Run.{final, is_zero, instruction-fetched, instruction
 
 -- Distances
 
-small_distance : (to from : ℕ) → to ≤ limit → from ≤ limit → is_signed_by (2 ^ 30) (pos to -ℤ pos from) ≡ true
+pub small_distance : (to from : ℕ) → to ≤ limit → from ≤ limit → is_signed_by (2 ^ 30) (pos to -ℤ pos from) ≡ true
 small_distance to from h k = grind (arith, nat_tests, ints)
 
 -- A distance from an address, added to it, is the address that it leads to.
 word-distance : (to from : ℕ) → to ≤ limit → from ≤ limit → word (from + cast_unsigned w64 (pos to -ℤ pos from)) ≡ to
 word-distance to from h k = grind (arith, ints)
 
-distance-is : (find : List ℕ → Option Definition) (from : ℕ) (label : List ℕ) (d : Definition) → find label ≡ Some d
+pub distance-is : (find : List ℕ → Option Definition) (from : ℕ) (label : List ℕ) (d : Definition) → find label ≡ Some d
     → distance find from label ≡ pos d.address -ℤ pos from
 distance-is find from label d e = ap (λ (o : Option Definition). option_map_or (λ x. pos x.address -ℤ pos from) o (pos 0)) e
 

@@ -4,6 +4,7 @@ pub mod Run
 pub mod Bytes
 pub mod Numbers
 pub mod Addresses
+pub mod Reached
 pub mod Headers
 pub mod Placed
 pub mod Loaded

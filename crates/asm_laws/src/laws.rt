@@ -1,6 +1,9 @@
-ghost use Rattle.std.specs.Prelude.{◌≡◌, ◌≤◌, ◌<◌, ◌+◌, ◌*◌, ◌/◌, ◌%◌, ◌^◌, ℕ, ℤ, List, Option, Some, None, Ok, Err, IsOk, [], length, true};
+ghost use Rattle.std.specs.Prelude.{◌≡◌, ◌↔◌, ◌≤◌, ◌<◌, ◌+◌, ◌*◌, ◌/◌, ◌%◌, ◌^◌, ℕ, ℤ, List, Option, Some, None, Ok, Err, IsOk, [], length, true};
 ghost use Rattle.std.specs.Int.{cast_unsigned, w64};
 ghost use Rattle.rv_core.specs.declared.context.Context.{Context};
+ghost use Rattle.rv_core.specs.declared.instr.Op.{Op};
+ghost use Rattle.rv_core.specs.declared.listing.Layout.TheVariants.{B};
+ghost use Rattle.rv_core.specs.Listing.{form};
 ghost use Rattle.rv_core.specs.Encoding.{is_signed_by};
 ghost use Rattle.rv_core.specs.Memory.{Memory};
 ghost use Rattle.rv_core.specs.Machine.{at, next, with_register, instructions};
@@ -8,7 +11,7 @@ ghost use Rattle.rv_core.specs.Rows.{word};
 ghost use Rattle.rv_asm.specs.declared.labels.Definition.{Definition};
 ghost use Rattle.rv_asm.specs.declared.mnemonics.Pseudo.TheVariants.{Call};
 ghost use Rattle.rv_asm.specs.declared.operands.Fields.{Fields};
-ghost use Rattle.rv_asm.specs.declared.statement.Statement.TheVariants.{LoadNumber, LoadAddress, Jump};
+ghost use Rattle.rv_asm.specs.declared.statement.Statement.TheVariants.{LoadNumber, LoadAddress, Branch, Jump};
 ghost use Rattle.rv_asm.specs.Statement.{pseudo_by};
 ghost use Rattle.rv_asm.specs.Encoding.{base, limit, bytes_of};
 ghost use Rattle.rv_asm.specs.File.{file_of};
@@ -17,6 +20,7 @@ ghost use Rattle.elf_loader.specs.declared.ElfError.TheVariants.{Entry};
 ghost use Rattle.elf_loader.specs.Image.{loaded};
 ghost use Rattle.asm_laws.specs.Code.{HoldsCode};
 ghost use Rattle.asm_laws.specs.Image.{image_of};
+ghost use Rattle.asm_laws.specs.Reach.{IsWithinReach};
 
 /// `li rd, n`, where the assembler accepts it and memory holds its bytes at the program counter: its instructions, done
 /// one after another, leave `n` modulo 2^64 in `rd`, every other register and the memory as they were, and the program
@@ -57,6 +61,22 @@ pub fn jumps_come_to_labels()
         → bytes_of find cx.pc (pseudo_by Call operands n) ≡ Ok bytes → HoldsCode m cx.pc bytes
         → instructions (length bytes / 4) cx m
         ≡ record { context = at (with_register cx 1 (next cx)) d.address; memory = m; trap = None } }
+{}
+
+/// Where the label of `jal rd, NAME` is defined, the assembler accepts the line exactly where there is room for its bytes
+/// and the label lies at most 2^20 bytes before it, or fewer behind it, at an even distance; so also of `j` and `call`,
+/// which are `jal`, and of a branch, for 2^12 bytes. `la rd, NAME` is accepted wherever there is room, if its label lies
+/// where an accepted text's labels do.
+pub fn labels_within_reach()
+    ensures jal { (find : List ℕ → Option Definition) (at rd : ℕ) (label : List ℕ) (d : Definition)
+        → rd < 32 → find label ≡ Some d
+        → (IsOk (bytes_of find at (Jump rd label)) ↔ (IsWithinReach (2 ^ 20) at d.address × (at + 4 ≤ limit))) }
+    ensures branch { (find : List ℕ → Option Definition) (at rs1 rs2 : ℕ) (o : Op) (opcode f3 : ℕ) (label : List ℕ) (d : Definition)
+        → form o ≡ B opcode f3 → rs1 < 32 → rs2 < 32 → find label ≡ Some d
+        → (IsOk (bytes_of find at (Branch o rs1 rs2 label)) ↔ (IsWithinReach (2 ^ 12) at d.address × (at + 4 ≤ limit))) }
+    ensures la { (find : List ℕ → Option Definition) (at rd : ℕ) (label : List ℕ) (d : Definition)
+        → rd < 32 → find label ≡ Some d → d.address ≤ limit
+        → (IsOk (bytes_of find at (LoadAddress rd label)) ↔ (at + 8 ≤ limit)) }
 {}
 
 /// The labels of an accepted text lie at 0x110078 at most, as the laws of `la` and of jumps ask.

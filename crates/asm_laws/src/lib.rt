@@ -5,5 +5,5 @@ mod laws;
 
 pub use laws::{
     assembled_files_are_loaded, jumps_come_to_labels, la_leaves_its_address, labels_lie_within,
-    li_leaves_its_number,
+    labels_within_reach, li_leaves_its_number,
 };

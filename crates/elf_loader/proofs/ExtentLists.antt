@@ -1,13 +1,14 @@
 -- Extents that are joined where they are adjacent and have equal rights.
-use Rattle.std.proofs.Common.{◌≡◌, ◌⊎◌, ℕ, zero, suc, ◌+◌, ◌<◌, ◌≤◌, Bool, true, false, cond, ◌&&◌, ◌==◌, List, [], ◌∷◌, map, filter, length, Some, None, sum_by, refl, ap, sym, subst, ◌∙◌, ⊎_elim, inl, inr, arith}
+use Rattle.std.proofs.Common.{◌≡◌, ◌⊎◌, ℕ, zero, suc, ◌+◌, ◌<◌, ◌≤◌, Bool, true, false, cond, ◌&&◌, ◌==◌, List, [], ◌∷◌, map, filter, length, get_or, Some, None, sum_by, refl, ap, sym, subst, ◌∙◌, ⊎_elim, inl, inr, arith}
 use Rattle.std.specs.List.{range_with_len, AllByRecursion}
 use Rattle.std.proofs.lemmas.Bool.{and_from, and_parts, cases_Bool, cases_lt, cases_order, eqb-true, eq-eqb, cond-true, cond-false}
 use Rattle.std.proofs.lemmas.List.Sums.{sum_by-cons}
 use Rattle.guest_space.specs.declared.Extent.{Extent}
 use Rattle.guest_space.specs.Space.{in_run}
 use Rattle.guest_space.specs.Regions.{extent_end, AreMaximal, extent_rights, joined, merged}
+use Rattle.elf_loader.specs.Steps.{PagesRise}
 use Rattle.guest_space.proofs.Regions as regions
-use Rattle.guest_space.proofs.Regions.{AreRising, AreRising-weaker, merged-maximal, in_run_within, in_run_before, in_run_behind}
+use Rattle.guest_space.proofs.Regions.{AreRising, AreRising-weaker, AreFrom, AreFrom-before, merged-maximal, in_run_within, in_run_before, in_run_behind}
 
 -- the second extent continues the first
 abbrev continues : Extent → Extent → Bool
@@ -155,3 +156,19 @@ module _ (test : ℕ → Bool) (rights : ℕ → ℕ) where
       (λ (here : test page ≡ true). rw here (holds page here, each-single P holds n (page + 1)))
       (λ (other : test page ≡ false). rw other (each-single P holds n (page + 1)))
       (cases_Bool (test page))
+
+-- The extents of a maximal list rise.
+
+AreFrom-each : (n : ℕ) (es : List Extent) → AreFrom n es → AreMaximal es → (j : ℕ) (d : Extent) → j < length es → n ≤ (get_or es j d).page
+AreFrom-each n [] from maximal j d below = absurd (omega arith)
+AreFrom-each n (e ∷ es) from maximal zero d below = from
+AreFrom-each n (e ∷ es) from maximal (suc j) d below =
+    let rest = AreFrom-each (extent_end e) es (AreFrom-before e es maximal.1) maximal.2 j d (omega arith) in omega (arith, rest, from)
+
+pub PagesRise-maximal : (es : List Extent) → AreMaximal es → PagesRise es
+PagesRise-maximal [] maximal i j d order below = absurd (omega arith)
+PagesRise-maximal (e ∷ es) maximal zero zero d order below = omega arith
+PagesRise-maximal (e ∷ es) maximal zero (suc j) d order below =
+    let rest = AreFrom-each (extent_end e) es (AreFrom-before e es maximal.1) maximal.2 j d (omega arith) in omega (arith, rest)
+PagesRise-maximal (e ∷ es) maximal (suc i) zero d order below = absurd (omega arith)
+PagesRise-maximal (e ∷ es) maximal (suc i) (suc j) d order below = PagesRise-maximal es maximal.2 i j d (omega arith) (omega arith)

@@ -5,5 +5,6 @@ pub mod ImageLaws
 pub mod MemoryBytes
 pub mod PageTables
 pub mod Refusals
+pub mod SpanBytes
 pub mod Spans
 pub mod TouchedPages

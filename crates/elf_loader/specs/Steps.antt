@@ -1,12 +1,13 @@
 -- What the loader's steps find out on the way to a program.
-use Rattle.std.specs.Prelude.{◌≡◌, ◌<◌, ◌≤◌, ℕ, ◌+◌, ◌-◌, ◌*◌, ◌^◌, nat_lt, nat_le, Bool, true, false, ◌&&◌, ◌||◌, if◌then◌else◌, List, map, length, bit_or, Contains, slice_index_or}
-use Rattle.std.specs.List.{filter, range_with_len}
+use Rattle.std.specs.Prelude.{◌≡◌, ◌⊎◌, ◌<◌, ◌≤◌, ℕ, ◌+◌, ◌-◌, ◌*◌, ◌^◌, nat_lt, nat_le, Bool, true, false, ◌&&◌, ◌||◌, if◌then◌else◌, List, map, length, bit_or, Contains, slice_index_or}
+use Rattle.std.specs.List.{filter, range_with_len, All}
+use Rattle.std.specs.List.Sorted.{IsNonDecreasingBy}
 use Rattle.guest_space.specs.declared.Extent.{Extent}
 use Rattle.elf_loader.specs.declared.header.ProgramHeader.{ProgramHeader}
 use Rattle.elf_loader.specs.declared.overlap.Span.{Span}
 use Rattle.elf_loader.specs.declared.pages.Page.{Page}
-use Rattle.elf_loader.specs.Fields.{program_header}
-use Rattle.elf_loader.specs.Segments.{is_segment, memory_end}
+use Rattle.elf_loader.specs.Fields.{e_phnum, program_header}
+use Rattle.elf_loader.specs.Segments.{is_segment, memory_end, covers, byte_of}
 
 -- The address holds a byte of the file.
 abbrev pub holds_file_byte : ProgramHeader → ℕ → Bool
@@ -26,6 +27,33 @@ span_of file i = record { number = i; start = (program_header file i).p_vaddr; e
 -- The spans have each segment of the first n headers.
 abbrev pub HasSpans : List ℕ → ℕ → List Span → Type 0
 HasSpans file n spans = (i : ℕ) → i < n → is_segment (program_header file i) ≡ true → Contains spans (span_of file i)
+
+-- The spans belong to the first n headers.
+abbrev pub AreNumbered : ℕ → List Span → Type 0
+AreNumbered n spans = All (λ span. span.number < n) spans
+
+-- The spans have each segment that ends above an address.
+abbrev pub HasSpansAbove : List ℕ → ℕ → List Span → Type 0
+HasSpansAbove file start spans =
+    (i : ℕ) → i < e_phnum file → is_segment (program_header file i) ≡ true → start < memory_end (program_header file i)
+    → Contains spans (span_of file i)
+
+-- The spans have each segment with an address from the first on and before the end.
+abbrev pub HasSpansBetween : List ℕ → ℕ → ℕ → List Span → Type 0
+HasSpansBetween file start end spans =
+    (i : ℕ) → i < e_phnum file → is_segment (program_header file i) ≡ true → start < memory_end (program_header file i)
+    → (program_header file i).p_vaddr < end → Contains spans (span_of file i)
+
+-- A byte of memory after the copies of the first n spans' segments: that of the program, or else 0, and none of
+-- these segments covers its address.
+abbrev pub IsFilled : List ℕ → List Span → ℕ → ℕ → ℕ → Type 0
+IsFilled file spans n address byte =
+    (byte ≡ byte_of file address)
+    ⊎ ((byte ≡ 0) × ((k : ℕ) (d : Span) → k < n → covers (program_header file (slice_index_or spans k d).number) address ≡ false))
+
+-- No extent begins below an earlier one.
+abbrev pub PagesRise : List Extent → Type 0
+PagesRise extents = IsNonDecreasingBy (λ extent. extent.page) extents
 
 -- Of the spans of the first n headers, each ends before any later one begins.
 abbrev pub LieApart : ℕ → List Span → Type 0

@@ -165,7 +165,10 @@ pub fn load(alloc: Global, bytes: &[u8]) -> Result<Program, LoadError>
     ensures whole { IfOk result (λ program. AreWhole program.runs) }
 {
     let layout = layout(alloc, bytes)?;
-    let runs = image::runs(alloc, bytes, layout.runs.as_slice())?;
+    let Ok(file) = ElfFile::open(bytes) else {
+        unreachable!()
+    };
+    let runs = file.runs(alloc, layout.runs.as_slice())?;
     Ok(Program {
         entry: layout.entry,
         runs,

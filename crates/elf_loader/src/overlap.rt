@@ -1,16 +1,17 @@
 ghost use Rattle.std.specs.Prelude.{◌≡◌, ◌<◌, ◌≤◌, ℕ, IfOk, IsTrue, MatchOption, false, true};
+ghost use Rattle.std.specs.List.Sorted.{IsNonDecreasingBy};
 ghost use Rattle.elf_loader.specs.Refusal.{meets_earlier};
-ghost use Rattle.elf_loader.specs.Steps.{HasSpans, LieApart};
+ghost use Rattle.elf_loader.specs.Steps.{AreNumbered, HasSpans, LieApart};
 
 use crate::file::ElfFile;
 use std::alloc::{AllocError, Global};
 
 /// The addresses of a segment, from `start` to before `end`, with the number of its header.
 #[derive(Clone, Copy)]
-struct Span {
-    number: usize,
-    start: u64,
-    end: u128,
+pub struct Span {
+    pub number: usize,
+    pub start: u64,
+    pub end: u128,
 }
 
 impl ElfFile<'_> {
@@ -48,9 +49,11 @@ impl ElfFile<'_> {
     }
 
     /// The segments of the first `n` headers, by their addresses.
-    fn spans(&self, alloc: Global, n: usize) -> Result<Vec<Span>, AllocError>
+    pub fn spans(&self, alloc: Global, n: usize) -> Result<Vec<Span>, AllocError>
         requires { n ≤ self.now.count }
-        ensures { IfOk result (λ spans. HasSpans self.now.bytes.now n spans.items) }
+        ensures there { IfOk result (λ spans. HasSpans self.now.bytes.now n spans.items) }
+        ensures numbered { IfOk result (λ spans. AreNumbered n spans.items) }
+        ensures rising { IfOk result (λ spans. IsNonDecreasingBy (λ span. span.start) spans.items) }
     {
         let mut spans = Vec::new(alloc);
         for number in 0..n {

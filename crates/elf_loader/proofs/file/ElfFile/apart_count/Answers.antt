@@ -6,7 +6,7 @@ use Rattle.elf_loader.proofs.file.ElfFile.apart_count.Goals as goal
 pub returns-then-lie_apart-clause-apart : goal.returns-then-lie_apart-clause-apart
 returns-then-lie_apart-clause-apart c =
     let apart : LieApart c.args.n c.in-Ok.spans.items = subst (λ spans. LieApart c.args.n spans) c.as_slice.ensures.value (c.if-lie_apart.ensures refl) in
-    meets_earlier-apart c.args.self.now.bytes.now c.args.n c.args.n c.in-Ok.spans.items c.in-Ok.ensures apart (omega arith)
+    meets_earlier-apart c.args.self.now.bytes.now c.args.n c.args.n c.in-Ok.spans.items c.in-Ok.ensures.there apart (omega arith)
 
 pub loop-apart-preserved-then-lie_apart-2 : goal.loop-apart-preserved-then-lie_apart-2
 loop-apart-preserved-then-lie_apart-2 c =
@@ -16,5 +16,5 @@ loop-apart-preserved-then-lie_apart-2 c =
     record {
       within = c.loop-apart.invariant.within;
       below = below;
-      apart = meets_earlier-apart c.args.self.now.bytes.now middle c.args.n c.in-Ok.spans.items c.in-Ok.ensures apart below;
+      apart = meets_earlier-apart c.args.self.now.bytes.now middle c.args.n c.in-Ok.spans.items c.in-Ok.ensures.there apart below;
     }
