@@ -25,10 +25,12 @@ effects : (w : World) → Effects w (Keeps w)
 effects w = record {
   stays = λ _ _ _ _. record { positions = refl; settings = refl };
   allocates = λ _ _ _ _ _ _ _ _ _ _ _. record { positions = refl; settings = refl };
+  frees = λ _ _ _ _ _ _. record { positions = refl; settings = refl };
   protects = λ _ _ _ _ _ _ _ _. record { positions = refl; settings = refl };
   fills = λ _ _ _ _ _ _. record { positions = refl; settings = refl };
   makes_thread = λ _ _ _ _ _ _ _. record { positions = refl; settings = refl };
   resumes = λ _ _ _ _ _ _. record { positions = refl; settings = refl };
+  ends_thread = λ _ _ _ _ _. record { positions = refl; settings = refl };
   registers = λ _ _ _ _ _ _ _. record { positions = refl; settings = refl };
   makes_event = λ _ _. record { positions = refl; settings = refl };
   opens = λ _ _ _ _ _ _. record { positions = refl; settings = refl };
@@ -37,6 +39,10 @@ effects w = record {
   writes_file = λ _ _ _ _ _ _. record { positions = refl; settings = refl };
   writes_output = λ _ _ _ _ _. record { positions = refl; settings = refl };
   writes_errors = λ _ _ _ _ _. record { positions = refl; settings = refl };
+  sets_length = λ _ _ _ _ _ _. record { positions = refl; settings = refl };
+  deletes = λ _ _ _ _ _. record { positions = refl; settings = refl };
+  renames = λ _ _ _ _ _ _ _ _. record { positions = refl; settings = refl };
+  shares = λ _ _ _ _ _. record { positions = refl; settings = refl };
   ends = λ _ _ _ _ _ _. record { positions = refl; settings = refl };
   makes_process = λ _ _ _. record { positions = refl; settings = refl };
   exits = λ _ _ _ _ _. record { positions = refl; settings = refl };

@@ -1,8 +1,9 @@
 -- Worlds stay sound: by every call, and by every turn.
-use Rattle.std.specs.Prelude.{◌≡◌, ℕ, ◌+◌, ◌≤◌, ◌<◌, ◌^◌, Bool, true, false, cond, not, ◌==◌, List, is_some, slice_get}
+use Rattle.std.specs.Prelude.{◌≡◌, ℕ, zero, suc, ◌+◌, ◌-◌, ◌≤◌, ◌<◌, ◌^◌, Bool, true, false, cond, not, ◌==◌, List, is_some, slice_get}
 use Rattle.std.specs.List.{All, list_any}
 use Rattle.std.specs.Ordering.{nat_cmp}
-use Rattle.std.specs.FinMap.{empty, len, len-empty}
+use Rattle.std.specs.FinMap.{empty, contains_key, len, len-empty, len-remove}
+use Rattle.std.specs.Cmp.{nat_cmp_total}
 use Rattle.std.specs.declared.option.Option.{Option}
 use Rattle.std.specs.declared.option.Option.TheVariants.{None, Some}
 use Rattle.std.proofs.Common.{refl, sym, ap, subst, ◌∙◌, arith, eq-eqb, eqb-true}
@@ -10,12 +11,12 @@ use Rattle.bas_names.specs.declared.StreamName.{StreamName}
 use Rattle.bas_names.specs.declared.StreamName.TheVariants.{File}
 use Rattle.rv_core.specs.declared.context.Context.{Context}
 use Rattle.rv_core.specs.Machine.{instructions}
-use Rattle.guest_space.specs.Space.{Space, Frame, IsSpace, memory_of, with_run, protected, with_memory}
+use Rattle.guest_space.specs.Space.{Space, Frame, IsSpace, memory_of, with_run, without_run, protected, with_memory}
 use Rattle.guest_space.specs.Access.{with_bytes}
 use Rattle.guest_space.specs.Run.{is_run, is_held, if_held, first_held}
 use Rattle.guest_space.specs.Running.{Ran as Run, run_space}
 use Rattle.guest_space.proofs.FirstSome.{first_some_none_at}
-use Rattle.guest_space.proofs.Spaces.{IsSpace-empty, IsSpace-with_run, IsSpace-protected, IsSpace-with_memory, HasBytes-memory_of, HasBytes-with_bytes}
+use Rattle.guest_space.proofs.Spaces.{IsSpace-empty, IsSpace-with_run, IsSpace-without_run, IsSpace-protected, IsSpace-with_memory, HasBytes-memory_of, HasBytes-with_bytes}
 use Rattle.guest_space.proofs.Turns.{IsSpace-run_space}
 use Rattle.guest_space.proofs.Filling.{len-with_run, len-protected, len-with_memory}
 use Rattle.turn_sched.specs.Lists.{Waiting, with_woken, with_ready, without_place}
@@ -30,6 +31,7 @@ use Rattle.abi_calls.specs.Objects.{Object, Objects, object_at, running, is_proc
 use Rattle.abi_calls.specs.World.{World, Told, world_of}
 use Rattle.abi_calls.specs.Memory.{with_pages}
 use Rattle.abi_calls.specs.Threads.{with_thread}
+use Rattle.abi_calls.specs.Streams.{shared_object}
 use Rattle.abi_calls.specs.Processes.{without_threads}
 use Rattle.abi_calls.specs.Turn.{is_due, with_due_ready, with_turn, idle_turn, pick_of, with_pick, with_run_of, run_end, run_in, run_thread, turn_of_pick, world_turn}
 use Rattle.abi_calls.specs.Sound.{can_be_awaited, is_sound_name, is_sound_wait, IsSoundObject, IsSound, HasBytes}
@@ -62,6 +64,26 @@ AreSoundPages-with_run s page count rights sound run small free room =
     let absent = λ (q : ℕ) (low : page ≤ q) (high : q < page + count). held_none (is_held s q) q (first_some_none_at (if_held s) page count q (is_none (first_held s page count) free) low high) in
     let more = len-with_run s page count rights absent in
     record { space = IsSpace-with_run s page count rights run (omega arith) sound.space; few = omega arith }
+
+left_len : (b : Bool) (n : ℕ) → cond b (n - 1) n ≤ n
+left_len true n = omega arith
+left_len false n = omega arith
+
+len-without_run : (s : Space) (page n : ℕ) → len (without_run s page n) ≤ len s
+unfolding without_run
+len-without_run s page zero = omega arith
+len-without_run s page (suc n) =
+    let t = without_run s page n in
+    let one = len-remove nat_cmp_total t (page + n) in
+    let fewer = left_len (contains_key t (page + n)) (len t) in
+    let rest = len-without_run s page n in
+    omega arith
+
+pub AreSoundPages-without_run : (s : Space) (page count : ℕ) → AreSoundPages s → AreSoundPages (without_run s page count)
+AreSoundPages-without_run s page count sound =
+    let fewer = len-without_run s page count in
+    let few = sound.few in
+    record { space = IsSpace-without_run s page count sound.space; few = omega arith }
 
 pub AreSoundPages-protected : (s : Space) (page count rights : ℕ) → AreSoundPages s → rights ≤ ALL_RIGHTS → AreSoundPages (protected s page count rights)
 AreSoundPages-protected s page count rights sound small =
@@ -184,6 +206,29 @@ IsSound-with_new o h x sound fresh itself no_process no_thread =
 pub IsSound-with_stream : (o : Objects) (h : ℕ) (name : StreamName) → IsSound o → IsFresh o h → is_sound_name name ≡ true → IsSound (with_object o h (Stream name))
 IsSound-with_stream o h name sound fresh good = IsSound-with_new o h (Stream name) sound fresh good refl refl
 
+-- What several handles name is as sound under each, and is no process and no thread.
+record SharesWell (o : Objects) (h : ℕ) (x : Object) : Type 0 where
+  itself : IsSoundObject (with_object o h x) x
+  no_process : is_process x ≡ false
+  no_thread : is_thread x ≡ false
+
+shares_well : (o : Objects) (h : ℕ) (x : Object) (y : Option Object) → ((z : Object) → y ≡ Some z → IsSoundObject o z) → shared_object y ≡ Some x → SharesWell o h x
+shares_well o h x (Some (Stream name)) sound is =
+    let same : Stream name ≡ x = cc in
+    subst (SharesWell o h) same (record { itself = sound (Stream name) refl; no_process = refl; no_thread = refl })
+shares_well o h x (Some (ReadEnd pipe)) sound is =
+    let same : ReadEnd pipe ≡ x = cc in
+    subst (SharesWell o h) same (record { itself = sound (ReadEnd pipe) refl; no_process = refl; no_thread = refl })
+shares_well o h x (Some (WriteEnd pipe)) sound is =
+    let same : WriteEnd pipe ≡ x = cc in
+    subst (SharesWell o h) same (record { itself = sound (WriteEnd pipe) refl; no_process = refl; no_thread = refl })
+shares_well o h x _ sound is = absurd (cc)
+
+pub IsSound-shared : (o : Objects) (s h : ℕ) (x : Object) → IsSound o → IsFresh o h → shared_object (object_at o s) ≡ Some x → IsSound (with_object o h x)
+IsSound-shared o s h x sound fresh is =
+    let well = shares_well o h x (object_at o s) (λ z at. sound.objects s z at) is in
+    IsSound-with_new o h x sound fresh well.itself well.no_process well.no_thread
+
 pub IsSound-with_process : (o : Objects) (h : ℕ) → IsSound o → IsFresh o h → number_of is_process o.live < MOST_PROCESSES → IsSound (with_object o h (Process empty None))
 IsSound-with_process o h sound fresh room =
     let none : len (empty {X = Frame} {R = nat_cmp}) ≡ 0 = len-empty nat_cmp Frame in
@@ -257,12 +302,14 @@ effects w sound = let o = w.objects in record {
   stays = λ c r still small choice. sound;
   allocates = λ p page count rights old runs run rights_small free room small choice.
       IsSound-with_pages o p old _ sound runs (AreSoundPages-with_run old page count rights (AreSoundPages-running o p old sound runs) run rights_small free room);
+  frees = λ p page count old runs small choice. IsSound-with_pages o p old _ sound runs (AreSoundPages-without_run old page count (AreSoundPages-running o p old sound runs));
   protects = λ p page count rights old runs rights_small small choice.
       IsSound-with_pages o p old _ sound runs (AreSoundPages-protected old page count rights (AreSoundPages-running o p old sound runs) rights_small);
   fills = λ p address bytes old runs small choice.
       IsSound-with_pages o p old _ sound runs (AreSoundPages-with_bytes old address bytes (AreSoundPages-running o p old sound runs) small);
   makes_thread = λ h p context s runs room small fresh. IsSound-with_fresh_thread o h p context s sound fresh runs room;
   resumes = λ t p context thread rests small choice. IsSound-with_resumed o t sound (ap is_some_thread thread) rests;
+  ends_thread = λ t p context is small choice. IsSound-without_handles o (λ k. k == t) sound (λ k same. ap (λ q. running (object_at o q)) (eqb-true k t same) ∙ ap running is);
   registers = λ t p old new thread rests small choice. IsSound-with_registers o t p old new sound thread;
   makes_event = λ h small fresh. IsSound-with_new o h (Event false) sound fresh tt refl refl;
   opens = λ h name create exclusive good small fresh. IsSound-with_stream o h name sound fresh good;
@@ -271,6 +318,10 @@ effects w sound = let o = w.objects in record {
   writes_file = λ s offset bytes name is small choice. sound;
   writes_output = λ s offset bytes is small choice. sound;
   writes_errors = λ s offset bytes is small choice. sound;
+  sets_length = λ s size name is short small choice. sound;
+  deletes = λ name bytes is shut small choice. sound;
+  renames = λ from to bytes good is shut_from shut_to small choice. sound;
+  shares = λ s h x is small fresh. IsSound-shared o s h x sound fresh is;
   ends = λ h x is idle no_thread small choice. IsSound-without_handles o (λ k. k == h) sound (λ k same. ap (λ q. running (object_at o q)) (eqb-true k h same) ∙ ap running is ∙ idle);
   makes_process = λ h room small fresh. IsSound-with_process o h sound fresh room;
   exits = λ p code s runs small choice. IsSound-exited o p code s sound runs;

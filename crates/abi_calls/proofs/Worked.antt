@@ -1,34 +1,35 @@
 -- Worked examples: what the definitions say of small worlds.
-use Rattle.std.specs.Prelude.{◌≡◌, ℕ, ◌+◌, ◌==◌, ◌-◌, ◌^◌, Bool, true, false, cond, ◌||◌, if◌then◌else◌, nat_lt, nat_le, is_some, List, [], ◌∷◌, ◌++◌, map, not, replicate, take, drop}
+use Rattle.std.specs.Prelude.{◌≡◌, ℕ, ◌+◌, ◌==◌, ◌-◌, ◌^◌, Bool, true, false, cond, ◌||◌, if◌then◌else◌, nat_lt, nat_le, is_some, List, [], ◌∷◌, ◌++◌, map, not, replicate, take, drop, unwrap_or}
 use Rattle.std.specs.Option.{option_or}
 use Rattle.std.specs.FinMap.{insert, empty, len, len-empty}
 use Rattle.std.specs.Ordering.{nat_cmp}
 use Rattle.std.specs.declared.option.Option.{Option}
 use Rattle.std.specs.declared.option.Option.TheVariants.{None, Some}
-use Rattle.std.proofs.Common.{refl, ap, ◌∙◌, eq-eqb, arith}
+use Rattle.std.proofs.Common.{refl, sym, ap, ◌∙◌, eq-eqb, arith}
 use Rattle.rv_core.specs.declared.context.Context.{Context}
 use Rattle.rv_core.specs.Machine.{instructions, Reached, go_on, executed_at}
 use Rattle.rv_core.specs.Memory.{fetched, byte_if, above, number_at}
-use Rattle.guest_space.specs.Space.{Space, Frame, memory_of, cell_in, with_run, protected, bytes_from}
+use Rattle.guest_space.specs.Space.{Space, Frame, memory_of, cell_in, with_run, without_run, protected, bytes_from}
 use Rattle.guest_space.specs.Running.{run_space, ran_from}
 use Rattle.guest_space.specs.First.{first_some}
 use Rattle.guest_space.specs.Run.{first_held, first_missing}
 use Rattle.bas_names.specs.declared.StreamName.TheVariants.{File, ConIn, ConOut}
-use Rattle.bas_edge.specs.Files.{file_of}
-use Rattle.turn_sched.specs.Lists.{Waiting, Lists, is_resting, with_resumed, contains, is_at, no_threads}
-use Rattle.abi_calls.specs.declared.call.Call.TheVariants.{MemoryAllocate, MemoryProtect, MemoryRead, ThreadCreate, ThreadResume, EventCreate, StreamOpen, StreamRead, StreamWrite, Close, ProcessCreate, ProcessExit, Configure}
+use Rattle.bas_edge.specs.Files.{Files, file_of, with_file, with_bytes_at, with_length, without_file, with_renamed}
+use Rattle.bas_edge.proofs.FilesIn.{same_files, same_name, same_name-≡, get-insert_name, get-remove_name}
+use Rattle.turn_sched.specs.Lists.{Waiting, Lists, is_resting, with_resumed, contains, is_at, no_threads, without_numbers}
+use Rattle.abi_calls.specs.declared.call.Call.TheVariants.{MemoryAllocate, MemoryFree, MemoryProtect, MemoryRead, ThreadCreate, ThreadResume, ThreadExit, EventCreate, StreamOpen, StreamRead, StreamWrite, StreamSetLength, StreamDelete, StreamRename, Share, Close, ProcessCreate, ProcessExit, ProcessStatus, Configure, Positions as AskPositions}
 use Rattle.abi_calls.specs.declared.object.Object.TheVariants.{Process, Thread, Event, Stream}
 use Rattle.abi_calls.specs.declared.settings.Positions.{Positions}
 use Rattle.abi_calls.specs.declared.settings.Settings.{Settings}
 use Rattle.abi_calls.specs.declared.reply.Reply.{Reply}
-use Rattle.abi_calls.specs.declared.reply.Reply.TheVariants.{Done, Handle, Bytes, Count, BadHandle, NotFound, Exists, Busy, NoAccess, BadAddress, NoRoom, TooBig}
+use Rattle.abi_calls.specs.declared.reply.Reply.TheVariants.{Done, Handle, Bytes, Count, Running, Exited, Places, BadHandle, NotFound, Exists, Busy, NoAccess, BadAddress, NoRoom, TooBig}
 use Rattle.abi_calls.specs.declared.threads.Turned.TheVariants.{Idle, Stuck, Exception}
 use Rattle.abi_calls.specs.Objects.{is_process, is_thread, number_of, Objects, Live, object_at, running, with_object, with_lists, without_handles, next_position}
-use Rattle.abi_calls.specs.World.{World, with_objects, with_contents, on_objects}
-use Rattle.abi_calls.specs.Memory.{memory_allocate_row, memory_protect_row, memory_read_row, with_pages}
-use Rattle.abi_calls.specs.Threads.{with_thread, thread_create_row, thread_resume_row}
-use Rattle.abi_calls.specs.Streams.{open_found, open_answer, stream_read_row, stream_write_row}
-use Rattle.abi_calls.specs.Processes.{close_row, process_exit_row, is_running, without_threads}
+use Rattle.abi_calls.specs.World.{World, Answer, with_objects, with_contents, with_files, on_objects, on_contents, on_files}
+use Rattle.abi_calls.specs.Memory.{memory_allocate_row, memory_free_row, memory_protect_row, memory_read_row, with_pages}
+use Rattle.abi_calls.specs.Threads.{with_thread, thread_create_row, thread_resume_row, thread_exit_row}
+use Rattle.abi_calls.specs.Streams.{open_found, open_answer, stream_read_row, stream_write_row, stream_set_length_row, is_open, delete_found, rename_found, shared_object, share_row}
+use Rattle.abi_calls.specs.Processes.{close_row, process_exit_row, process_status_row, is_running, without_threads}
 use Rattle.abi_calls.specs.Turn.{world_turn, with_pick, pick_of, run_thread, run_in, run_answer, with_due_ready, is_due, is_signalled_object, with_turn}
 use Rattle.abi_calls.specs.Abi.{Abi, answer, new_number}
 use Rattle.abi_calls.proofs.Counts.{count_empty}
@@ -63,6 +64,22 @@ protect_missing w p r runs =
 protect_no_page : (w : World) (p : ℕ) (s : Space) (r : Reply) → running (object_at w.objects p) ≡ Some s → answer w (MemoryProtect p 1 0 3) r ≡ (BadAddress, w)
 protect_no_page w p s r runs = ap (λ x. on_objects w (memory_protect_row w.objects p 1 0 3 x)) runs
 
+free_missing : (w : World) (p : ℕ) (r : Reply) → running (object_at w.objects p) ≡ Some empty → answer w (MemoryFree p 1 1) r ≡ (BadAddress, w)
+free_missing w p r runs =
+    ap (λ x. on_objects w (memory_free_row w.objects p 1 1 x)) runs
+    ∙ ap (λ (missing : Option ℕ). on_objects w (if is_some missing then (BadAddress, w.objects) else (Done, with_pages w.objects p (without_run empty 1 1)))) missing_one
+
+free_no_page : (w : World) (p : ℕ) (s : Space) (r : Reply) → running (object_at w.objects p) ≡ Some s → answer w (MemoryFree p 1 0) r ≡ (BadAddress, w)
+free_no_page w p s r runs = ap (λ x. on_objects w (memory_free_row w.objects p 1 0 x)) runs
+
+free_page : (w : World) (p : ℕ) (s : Space) (r : Reply) → running (object_at w.objects p) ≡ Some s → first_missing s 1 1 ≡ None → answer w (MemoryFree p 1 1) r ≡ (Done, with_objects w (with_pages w.objects p (without_run s 1 1)))
+free_page w p s r runs there =
+    ap (λ x. on_objects w (memory_free_row w.objects p 1 1 x)) runs
+    ∙ ap (λ (missing : Option ℕ). on_objects w (if is_some missing then (BadAddress, w.objects) else (Done, with_pages w.objects p (without_run s 1 1)))) there
+
+free_exited : (w : World) (p : ℕ) (r : Reply) → running (object_at w.objects p) ≡ None → answer w (MemoryFree p 1 1) r ≡ (BadHandle, w)
+free_exited w p r none = ap (λ x. on_objects w (memory_free_row w.objects p 1 1 x)) none
+
 read_too_much : (w : World) (p : ℕ) (s : Space) (r : Reply) → running (object_at w.objects p) ≡ Some s → answer w (MemoryRead p 0 65537) r ≡ (TooBig, w)
 read_too_much w p s r runs = ap (λ x. on_objects w (memory_read_row w.objects 0 65537 x)) runs
 
@@ -76,6 +93,19 @@ exit_of_running w p s r is = ap (λ x. on_objects w (process_exit_row w.objects 
 
 exit_of_exited : (w : World) (p : ℕ) (s : Space) (r : Reply) → object_at w.objects p ≡ Some (Process s (Some 0)) → answer w (ProcessExit p 7) r ≡ (BadHandle, w)
 exit_of_exited w p s r is = ap (λ x. on_objects w (process_exit_row w.objects p 7 (running x))) is
+
+-- Whether a process has exited, with which code; what is no process has no status.
+status_running : (w : World) (p : ℕ) (s : Space) (r : Reply) → object_at w.objects p ≡ Some (Process s None) → answer w (ProcessStatus p) r ≡ (Running, w)
+status_running w p s r is = ap (λ x. on_objects w (process_status_row w.objects x)) is
+
+status_exited : (w : World) (p : ℕ) (r : Reply) → object_at w.objects p ≡ Some (Process empty (Some 7)) → answer w (ProcessStatus p) r ≡ (Exited 7, w)
+status_exited w p r is = ap (λ x. on_objects w (process_status_row w.objects x)) is
+
+status_event : (w : World) (e : ℕ) (r : Reply) → object_at w.objects e ≡ Some (Event true) → answer w (ProcessStatus e) r ≡ (BadHandle, w)
+status_event w e r is = ap (λ x. on_objects w (process_status_row w.objects x)) is
+
+positions_told : (w : World) (r : Reply) → answer w AskPositions r ≡ (Places w.objects.positions, w)
+positions_told w r = refl
 
 -- ---- limits: the 17th process, the 65th thread, the least and the greatest slice
 
@@ -120,6 +150,17 @@ resume_ready : (w : World) (t p : ℕ) (context : Context) (r : Reply) → objec
 resume_ready w t p context r is suspended current =
     ap (λ x. on_objects w (thread_resume_row w.objects t x)) is
     ∙ ap (λ b. on_objects w (if b then (Done, with_lists w.objects (with_resumed w.objects.lists t)) else (Busy, w.objects))) (λ i. contains (suspended i) t || is_at t (current i))
+
+exit_of_thread : (w : World) (t p : ℕ) (context : Context) (r : Reply) → object_at w.objects t ≡ Some (Thread p context) → answer w (ThreadExit t) r ≡ (Done, with_objects w (without_handles w.objects (λ k. k == t)))
+exit_of_thread w t p context r is = ap (λ x. on_objects w (thread_exit_row w.objects t x)) is
+
+exit_of_event : (w : World) (e : ℕ) (r : Reply) → object_at w.objects e ≡ Some (Event false) → answer w (ThreadExit e) r ≡ (BadHandle, w)
+exit_of_event w e r is = ap (λ x. on_objects w (thread_exit_row w.objects e x)) is
+
+-- A number that ends is 0 where a thread waits for it, and a thread that ends waits no more.
+gone_from_waits : without_numbers (λ k. k == 5) (record no_threads { ready = 5 ∷ 6 ∷ []; waiting = record { thread = 7; handles = 4 ∷ 5 ∷ []; deadline = None } ∷ record { thread = 5; handles = []; deadline = Some 9 } ∷ [] })
+    ≡ record no_threads { ready = 6 ∷ []; waiting = record { thread = 7; handles = 4 ∷ 0 ∷ []; deadline = None } ∷ [] }
+gone_from_waits = refl
 
 resume_event : (w : World) (e : ℕ) (r : Reply) → object_at w.objects e ≡ Some (Event false) → answer w (ThreadResume e) r ≡ (BadHandle, w)
 resume_event w e r is = ap (λ x. on_objects w (thread_resume_row w.objects e x)) is
@@ -170,6 +211,97 @@ open_long_name w r = refl
 
 open_again : (w : World) (bytes : List ℕ) (r : Reply) → file_of w.contents.files (97 ∷ []) ≡ Some bytes → answer w (StreamOpen (File (97 ∷ [])) true true) r ≡ (Exists, w)
 open_again w bytes r is = ap (λ x. let row = open_found w.contents.files (97 ∷ []) true true x in open_answer w (File (97 ∷ [])) (new_number r) row.1 row.0) is
+
+-- ---- the length of a file, up to 16 MiB
+
+set_length : (w : World) (h : ℕ) (r : Reply) → object_at w.objects h ≡ Some (Stream (File (97 ∷ []))) →
+    answer w (StreamSetLength h 16777216) r ≡ (Done, with_contents w (with_files w.contents (with_length (97 ∷ []) 16777216 w.contents.files)))
+set_length w h r is = ap (stream_set_length_row w 16777216) is
+
+set_length_past : (w : World) (h : ℕ) (r : Reply) → object_at w.objects h ≡ Some (Stream (File (97 ∷ []))) → answer w (StreamSetLength h 16777217) r ≡ (TooBig, w)
+set_length_past w h r is = ap (stream_set_length_row w 16777217) is
+
+-- Whether the kind or the size is judged first: the kind.
+set_length_console : (w : World) (h : ℕ) (r : Reply) → object_at w.objects h ≡ Some (Stream ConIn) → answer w (StreamSetLength h 16777217) r ≡ (NoAccess, w)
+set_length_console w h r is = ap (stream_set_length_row w 16777217) is
+
+set_length_event : (w : World) (e : ℕ) (r : Reply) → object_at w.objects e ≡ Some (Event true) → answer w (StreamSetLength e 0) r ≡ (BadHandle, w)
+set_length_event w e r is = ap (stream_set_length_row w 0) is
+
+-- Bytes end at 16 MiB at the latest, and none can be written behind it.
+write_to_the_limit : (w : World) (h : ℕ) (r : Reply) → object_at w.objects h ≡ Some (Stream (File (97 ∷ []))) →
+    answer w (StreamWrite h 16777215 (1 ∷ [])) r ≡ (Count 1, with_contents w (with_files w.contents (with_bytes_at (97 ∷ []) 16777215 (1 ∷ []) w.contents.files)))
+write_to_the_limit w h r is = ap (stream_write_row w 16777215 (1 ∷ []) r) is
+
+write_past_the_limit : (w : World) (h : ℕ) (r : Reply) → object_at w.objects h ≡ Some (Stream (File (97 ∷ []))) → answer w (StreamWrite h 16777216 (1 ∷ [])) r ≡ (TooBig, w)
+write_past_the_limit w h r is = ap (stream_write_row w 16777216 (1 ∷ []) r) is
+
+write_nothing_past_the_limit : (w : World) (h : ℕ) (r : Reply) → object_at w.objects h ≡ Some (Stream (File (97 ∷ []))) → answer w (StreamWrite h 16777217 []) r ≡ (TooBig, w)
+write_nothing_past_the_limit w h r is = ap (stream_write_row w 16777217 [] r) is
+
+-- ---- a file goes, or gets another name, where no handle is open on it
+
+abbrev deleted : World → Option (List ℕ) → Bool → Answer
+deleted w found in_use = on_contents w (on_files w.contents (delete_found w.contents.files (97 ∷ []) in_use found))
+
+delete_there : (w : World) (bytes : List ℕ) (r : Reply) → file_of w.contents.files (97 ∷ []) ≡ Some bytes → is_open w.objects (97 ∷ []) ≡ false →
+    answer w (StreamDelete (97 ∷ [])) r ≡ (Done, with_contents w (with_files w.contents (without_file (97 ∷ []) w.contents.files)))
+delete_there w bytes r there shut = (λ i. deleted w (there i) (shut i))
+
+delete_open : (w : World) (bytes : List ℕ) (r : Reply) → file_of w.contents.files (97 ∷ []) ≡ Some bytes → is_open w.objects (97 ∷ []) ≡ true → answer w (StreamDelete (97 ∷ [])) r ≡ (Busy, w)
+delete_open w bytes r there used = (λ i. deleted w (there i) (used i))
+
+delete_absent : (w : World) (r : Reply) → file_of w.contents.files (97 ∷ []) ≡ None → answer w (StreamDelete (97 ∷ [])) r ≡ (NotFound, w)
+delete_absent w r none = (λ i. deleted w (none i) (is_open w.objects (97 ∷ [])))
+
+delete_long_name : (w : World) (r : Reply) → answer w (StreamDelete (replicate 81 97)) r ≡ (TooBig, w)
+delete_long_name w r = refl
+
+delete_without_name : (w : World) (r : Reply) → answer w (StreamDelete []) r ≡ (NotFound, w)
+delete_without_name w r = refl
+
+abbrev renamed : World → Option (List ℕ) → Bool → Bool → Answer
+renamed w found from_used to_used = on_contents w (on_files w.contents (rename_found w.contents.files (97 ∷ []) (98 ∷ []) (from_used || to_used) found))
+
+rename_there : (w : World) (bytes : List ℕ) (r : Reply) → file_of w.contents.files (97 ∷ []) ≡ Some bytes → is_open w.objects (97 ∷ []) ≡ false → is_open w.objects (98 ∷ []) ≡ false →
+    answer w (StreamRename (97 ∷ []) (98 ∷ [])) r ≡ (Done, with_contents w (with_files w.contents (with_renamed (97 ∷ []) (98 ∷ []) w.contents.files)))
+rename_there w bytes r there shut shut_too = (λ i. renamed w (there i) (shut i) (shut_too i))
+
+rename_onto_open : (w : World) (bytes : List ℕ) (r : Reply) → file_of w.contents.files (97 ∷ []) ≡ Some bytes → is_open w.objects (97 ∷ []) ≡ false → is_open w.objects (98 ∷ []) ≡ true →
+    answer w (StreamRename (97 ∷ []) (98 ∷ [])) r ≡ (Busy, w)
+rename_onto_open w bytes r there shut used = (λ i. renamed w (there i) (shut i) (used i))
+
+rename_absent : (w : World) (r : Reply) → file_of w.contents.files (97 ∷ []) ≡ None → answer w (StreamRename (97 ∷ []) (98 ∷ [])) r ≡ (NotFound, w)
+rename_absent w r none = (λ i. renamed w (none i) (is_open w.objects (97 ∷ [])) (is_open w.objects (98 ∷ [])))
+
+-- The first name is judged before the second, and both before the file is looked for.
+rename_to_long_name : (w : World) (r : Reply) → answer w (StreamRename (97 ∷ []) (replicate 81 97)) r ≡ (TooBig, w)
+rename_to_long_name w r = refl
+
+rename_without_names : (w : World) (r : Reply) → answer w (StreamRename [] (replicate 81 97)) r ≡ (NotFound, w)
+rename_without_names w r = refl
+
+-- A file that gets its own name stays.
+put_back : (files : Files) (name bytes q : List ℕ) → file_of files name ≡ Some bytes → (b : Bool) → same_name q name ≡ b → cond b (Some bytes) (cond b None (file_of files q)) ≡ file_of files q
+put_back files name bytes q there true same = sym (ap (file_of files) (same_name-≡ q name same) ∙ there)
+put_back files name bytes q there false other = refl
+
+pub with_renamed-same : (files : Files) (name bytes : List ℕ) → file_of files name ≡ Some bytes → with_renamed name name files ≡ files
+with_renamed-same files name bytes there = same_files _ _ (λ q.
+    get-insert_name (without_file name files) name (unwrap_or (file_of files name) []) q
+    ∙ (λ i. cond (same_name q name) (Some (unwrap_or (there i) [])) (get-remove_name files name q i))
+    ∙ put_back files name bytes q there (same_name q name) refl)
+
+rename_to_itself : (files : Files) (name bytes : List ℕ) → file_of files name ≡ Some bytes → rename_found files name name false (file_of files name) ≡ (Done, files)
+rename_to_itself files name bytes there = ap (rename_found files name name false) there ∙ ap (λ x. (Done, x)) (with_renamed-same files name bytes there)
+
+-- ---- a further handle
+
+share_file : (w : World) (h : ℕ) (name : List ℕ) → object_at w.objects h ≡ Some (Stream (File name)) → answer w (Share h) (Handle 9) ≡ (Handle 9, with_objects w (with_object w.objects 9 (Stream (File name))))
+share_file w h name is = ap (λ x. on_objects w (share_row w.objects (shared_object x) 9)) is
+
+share_event : (w : World) (e : ℕ) (r : Reply) → object_at w.objects e ≡ Some (Event true) → answer w (Share e) r ≡ (BadHandle, w)
+share_event w e r is = ap (λ x. on_objects w (share_row w.objects (shared_object x) (new_number r))) is
 
 -- ---- turns
 

@@ -1,9 +1,9 @@
--- The calls on memory: MemoryAllocate, MemoryProtect, MemoryRead, MemoryWrite.
+-- The calls on memory: MemoryAllocate, MemoryFree, MemoryProtect, MemoryRead, MemoryWrite.
 use Rattle.std.specs.Prelude.{ℕ, ◌+◌, ◌==◌, ◌||◌, ◌&&◌, not, if◌then◌else◌, nat_lt, nat_le, List, length, is_some}
 use Rattle.std.specs.FinMap.{len}
 use Rattle.std.specs.declared.option.Option.{Option}
 use Rattle.std.specs.declared.option.Option.TheVariants.{None, Some}
-use Rattle.guest_space.specs.Space.{Space, memory_of, with_run, protected, bytes_from, with_memory}
+use Rattle.guest_space.specs.Space.{Space, memory_of, with_run, without_run, protected, bytes_from, with_memory}
 use Rattle.guest_space.specs.Run.{is_run, first_held, first_missing}
 use Rattle.guest_space.specs.Access.{AccessFault, Missing, Forbidden, first_fault, with_bytes}
 use Rattle.abi_calls.specs.declared.limits.TheConstants.{MOST_BYTES, MOST_PAGES, ALL_RIGHTS, READ_RIGHT, WRITE_RIGHT}
@@ -24,6 +24,13 @@ memory_allocate_row o p page count rights (Some s) =
     else (if is_some (first_held s page count) then (Exists, o)
     else (if nat_lt MOST_PAGES (len s + count) then (NoRoom, o)
     else (Done, with_pages o p (with_run s page count rights))))
+
+-- MemoryFree: pages that are there go.
+abbrev pub memory_free_row : Objects → ℕ → ℕ → ℕ → Option Space → Reply × Objects
+memory_free_row o p page count None = (BadHandle, o)
+memory_free_row o p page count (Some s) =
+    if count == 0 || is_some (first_missing s page count) then (BadAddress, o)
+    else (Done, with_pages o p (without_run s page count))
 
 -- MemoryProtect: other rights for pages that are there.
 abbrev pub memory_protect_row : Objects → ℕ → ℕ → ℕ → ℕ → Option Space → Reply × Objects

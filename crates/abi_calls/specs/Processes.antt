@@ -1,4 +1,5 @@
--- The calls on processes and on the whole: Close, ProcessCreate, ProcessExit, Configure.
+-- The calls on processes and on the whole: Close, ProcessCreate, ProcessExit, ProcessStatus,
+-- Configure, Positions.
 use Rattle.std.specs.Prelude.{ℕ, ◌==◌, Bool, ◌||◌, ◌&&◌, not, if◌then◌else◌, nat_lt, nat_le, length, is_some}
 use Rattle.std.specs.FinMap.{empty}
 use Rattle.std.specs.declared.option.Option.{Option}
@@ -9,7 +10,7 @@ use Rattle.abi_calls.specs.declared.object.Object.TheVariants.{Process, Thread}
 use Rattle.abi_calls.specs.declared.settings.Positions.{Positions}
 use Rattle.abi_calls.specs.declared.settings.Settings.{Settings}
 use Rattle.abi_calls.specs.declared.reply.Reply.{Reply}
-use Rattle.abi_calls.specs.declared.reply.Reply.TheVariants.{Done, Handle, BadHandle, Busy, NoRoom, TooBig}
+use Rattle.abi_calls.specs.declared.reply.Reply.TheVariants.{Done, Handle, Running, Exited, Places, BadHandle, Busy, NoRoom, TooBig}
 use Rattle.abi_calls.specs.Objects.{Object, Objects, running, number_of, is_process, is_thread_of, object_at, with_object, without_handles}
 
 -- Close: the handle of an event, a stream or a process that has exited ends.
@@ -35,6 +36,12 @@ process_exit_row o p code None = (BadHandle, o)
 process_exit_row o p code (Some s) =
     (Done, with_object (without_threads o p) p (Process empty (Some code)))
 
+-- ProcessStatus: a process runs, or has exited with this code.
+abbrev pub process_status_row : Objects → Option Object → Reply × Objects
+process_status_row o (Some (Process memory None)) = (Running, o)
+process_status_row o (Some (Process memory (Some code))) = (Exited code, o)
+process_status_row o _ = (BadHandle, o)
+
 abbrev pub is_running : Object → Bool
 is_running x = is_some (running (Some x))
 
@@ -50,3 +57,7 @@ configure_row o settings positions =
     if not (is_acceptable settings) then (TooBig, o)
     else (if not (o.positions.turns == 0) || nat_lt 0 (number_of is_running o.live) then (Busy, o)
     else (Done, record o { settings = settings; positions = positions }))
+
+-- Positions.
+abbrev pub positions_row : Objects → Reply × Objects
+positions_row o = (Places o.positions, o)

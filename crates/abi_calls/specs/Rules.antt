@@ -9,7 +9,7 @@ use Rattle.bas_names.specs.declared.StreamName.TheVariants.{File}
 use Rattle.bas_names.specs.Names.{passed}
 use Rattle.abi_calls.specs.declared.limits.TheConstants.{LONGEST_NAME}
 use Rattle.abi_calls.specs.declared.call.Call.{Call}
-use Rattle.abi_calls.specs.declared.call.Call.TheVariants.{StreamOpen}
+use Rattle.abi_calls.specs.declared.call.Call.TheVariants.{StreamOpen, StreamDelete, StreamRename}
 use Rattle.abi_calls.specs.declared.reply.Reply.{Reply}
 use Rattle.abi_calls.specs.declared.reply.Reply.TheVariants.{NoAccess, NotFound, TooBig}
 use Rattle.abi_calls.specs.Objects.{Objects}
@@ -35,16 +35,26 @@ call_named (Some name) call =
     if nat_lt LONGEST_NAME (length name) then Err TooLong
     else (if length name == 0 then Err Empty else Ok (call name))
 
--- A call behind one list of rules: a file's name alone is changed.
-abbrev pub call_behind : List Rule → Call → Result Call NameFault
-call_behind rules (StreamOpen (File name) create exclusive) =
-    call_named (passed rules name) (λ n. StreamOpen (File n) create exclusive)
-call_behind rules call = Ok call
-
 abbrev pub unless_ended_at : (Call → Result Call NameFault) → Result Call NameFault
     → Result Call NameFault
 unless_ended_at next (Ok call) = next call
 unless_ended_at next (Err fault) = Err fault
+
+-- The second name of a call, where it has two.
+abbrev pub second_behind : List Rule → Call → Result Call NameFault
+second_behind rules (StreamRename from to) = call_named (passed rules to) (λ n. StreamRename from n)
+second_behind rules call = Ok call
+
+-- A call behind one list of rules: a file's name alone is changed. Of two names the first is
+-- judged before the second.
+abbrev pub call_behind : List Rule → Call → Result Call NameFault
+call_behind rules (StreamOpen (File name) create exclusive) =
+    call_named (passed rules name) (λ n. StreamOpen (File n) create exclusive)
+call_behind rules (StreamDelete name) = call_named (passed rules name) StreamDelete
+call_behind rules (StreamRename from to) =
+    unless_ended_at (second_behind rules)
+    (call_named (passed rules from) (λ n. StreamRename n to))
+call_behind rules call = Ok call
 
 -- A call behind all lists, top first.
 abbrev pub call_below : List (List Rule) → Call → Result Call NameFault

@@ -1,5 +1,6 @@
--- The calls on threads and events: ThreadCreate, ThreadResume, ThreadContext, EventCreate.
-use Rattle.std.specs.Prelude.{ℕ, false, if◌then◌else◌, nat_le}
+-- The calls on threads and events: ThreadCreate, ThreadResume, ThreadExit, ThreadContext,
+-- EventCreate.
+use Rattle.std.specs.Prelude.{ℕ, ◌==◌, false, if◌then◌else◌, nat_le}
 use Rattle.std.specs.declared.option.Option.{Option}
 use Rattle.std.specs.declared.option.Option.TheVariants.{None, Some}
 use Rattle.rv_core.specs.declared.context.Context.{Context}
@@ -9,7 +10,7 @@ use Rattle.abi_calls.specs.declared.limits.TheConstants.{MOST_THREADS}
 use Rattle.abi_calls.specs.declared.object.Object.TheVariants.{Thread, Event}
 use Rattle.abi_calls.specs.declared.reply.Reply.{Reply}
 use Rattle.abi_calls.specs.declared.reply.Reply.TheVariants.{Done, Handle, BadHandle, Busy, NoRoom}
-use Rattle.abi_calls.specs.Objects.{Object, Objects, number_of, is_thread, with_object, with_lists}
+use Rattle.abi_calls.specs.Objects.{Object, Objects, number_of, is_thread, with_object, with_lists, without_handles}
 
 -- The objects with a new thread, the last of the suspended ones.
 abbrev pub with_thread : Objects → ℕ → ℕ → Context → Objects
@@ -28,6 +29,11 @@ abbrev pub thread_resume_row : Objects → ℕ → Option Object → Reply × Ob
 thread_resume_row o t (Some (Thread p context)) =
     if is_resting o.lists t then (Done, with_lists o (with_resumed o.lists t)) else (Busy, o)
 thread_resume_row o t _ = (BadHandle, o)
+
+-- ThreadExit: a thread leaves its list, and its handle ends.
+abbrev pub thread_exit_row : Objects → ℕ → Option Object → Reply × Objects
+thread_exit_row o t (Some (Thread p context)) = (Done, without_handles o (λ k. k == t))
+thread_exit_row o t _ = (BadHandle, o)
 
 -- ThreadContext: other registers for a thread that rests.
 abbrev pub thread_context_row : Objects → ℕ → Context → Option Object → Reply × Objects

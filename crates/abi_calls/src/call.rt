@@ -14,6 +14,12 @@ pub enum Call {
         count: u64,
         rights: u8,
     },
+    /// Frees pages.
+    MemoryFree {
+        process: u64,
+        page: u64,
+        count: u64,
+    },
     /// Gives pages other rights.
     MemoryProtect {
         process: u64,
@@ -40,6 +46,10 @@ pub enum Call {
     },
     /// Makes a suspended or current thread ready.
     ThreadResume {
+        thread: u64,
+    },
+    /// Ends a thread with its handle.
+    ThreadExit {
         thread: u64,
     },
     /// Sets the registers of a suspended or current thread.
@@ -71,6 +81,24 @@ pub enum Call {
     StreamLength {
         stream: u64,
     },
+    /// Cuts a file to a length, or fills it up to it with zeros.
+    StreamSetLength {
+        stream: u64,
+        length: u64,
+    },
+    /// Removes a file on which no handle is open.
+    StreamDelete {
+        name: Items<u8>,
+    },
+    /// Gives a file another name, in place of a file that had it.
+    StreamRename {
+        from: Items<u8>,
+        to: Items<u8>,
+    },
+    /// Makes a further handle on what a stream is open on.
+    Share {
+        stream: u64,
+    },
     /// Ends the handle of an event, a stream or a process that has exited.
     Close {
         handle: u64,
@@ -82,9 +110,15 @@ pub enum Call {
         process: u64,
         code: u8,
     },
+    /// Asks whether a process has exited, and with which code.
+    ProcessStatus {
+        process: u64,
+    },
     /// Sets the settings and the positions, before the first turn.
     Configure {
         settings: Settings,
         positions: Positions,
     },
+    /// Asks how many turns were made, and how many words of the tapes were used.
+    Positions,
 }

@@ -3,7 +3,7 @@ ghost use Rattle.bas_edge.specs.Faults.{HasCause};
 ghost use Rattle.abi_calls.specs.declared.host.Crossing.{Crossing};
 ghost use Rattle.abi_calls.specs.Objects.{Objects};
 ghost use Rattle.abi_calls.specs.World.{Told};
-ghost use Rattle.abi_calls.specs.Abi.{Answers, IsTaken, counted_up, journalled};
+ghost use Rattle.abi_calls.specs.Abi.{Answers, counted_up, journalled};
 ghost use Rattle.abi_calls.specs.Failing.{Leaves};
 ghost use Rattle.abi_calls.specs.Turn.{world_turn};
 ghost use Rattle.abi_calls.specs.Sound.{IsSound};
@@ -90,7 +90,6 @@ pub trait Host {
     /// `Failed` only where the count of faults rose in this call; `Memory`, where it did not. After either the host
     /// is used no more, and of what the call does to the contents nothing or a part is done.
     fn call(&mut self, call: &Call) -> Result<Reply, HostError>
-        requires { IsTaken (objects self.old) call.now }
         ensures row { IfOk result (λ reply. Answers (objects self.old) (told self.old) call.now reply (objects self.new) (told self.new)) }
         ensures journal { IfOk result (λ reply. journal self.new ≡ journalled (journal self.old) (record { turns = (objects self.old).positions.turns; call = call.now; reply = reply })) }
         ensures answered { OnOk result (answered_count self.new ≡ counted_up (answered_count self.old)) }

@@ -1,3 +1,4 @@
+use crate::settings::Positions;
 use bas_items::Items;
 
 /// What a host answers to a call. The last eight refuse it and leave the world as it was.
@@ -13,6 +14,12 @@ pub enum Reply {
     Count(u64),
     /// The length of a file in bytes.
     Length(u64),
+    /// A process hasn't exited.
+    Running,
+    /// A process has exited with this code.
+    Exited(u8),
+    /// How many turns were made, and how many words of the tapes were used.
+    Places(Positions),
     /// A handle isn't live, or isn't of the kind that the call names.
     BadHandle,
     /// There is no such file.

@@ -4,6 +4,7 @@
 use bas_edge::EdgeError;
 use bascule_top::{Outcome, bascule};
 use host_monitor::Monitor;
+use host_objects::Counting;
 use std::alloc::AllocError;
 use std::env;
 use std::io::ErrorKind;
@@ -44,7 +45,8 @@ fn run(rt: &HostRuntime) -> Result<Outcome, EdgeError> {
     let output = Writing::new(rt.stdout());
     let errors = Writing::new(rt.stderr());
     let store = Folder::new(alloc, rt)?;
-    let mut host = Monitor::new(alloc, input, output, errors, store)?;
+    let numbers = Counting::new(alloc);
+    let mut host = Monitor::new(alloc, input, output, errors, store, numbers, false)?;
     let mut shelf = CurrentFolder::new(rt);
     Ok(bascule(alloc, words.as_slice(), &mut host, &mut shelf))
 }

@@ -7,6 +7,7 @@ use abi_calls::Host;
 use bas_edge::{ByteSink, CalmShelf, CalmSink, CalmSource, MapStore, Memory, Shelf, Sink, Store};
 use bascule_top::{Outcome, bascule};
 use host_monitor::Monitor;
+use host_objects::Counting;
 use std::alloc::{AllocError, Global};
 use std::test::Fail;
 
@@ -70,7 +71,7 @@ const CALM: Failing = Failing {
 };
 
 /// The host that the commands of these tests run over.
-pub type MemoryHost<O, E> = Counted<Monitor<CalmSource, O, CalmSink, E>>;
+pub type MemoryHost<O, E> = Counted<Monitor<CalmSource, O, CalmSink, E, Counting>>;
 
 /// A host that was not used, over no input.
 fn host_over<O: Sink + Drop, E: Store + Drop>(
@@ -82,8 +83,9 @@ fn host_over<O: Sink + Drop, E: Store + Drop>(
 {
     let input = CalmSource::new(Vec::new(alloc));
     let errors = CalmSink::new(alloc);
+    let numbers = Counting::new(alloc);
     Ok(Counted {
-        host: Monitor::new(alloc, input, output, errors, store)?,
+        host: Monitor::new(alloc, input, output, errors, store, numbers, false)?,
         turns: 0,
     })
 }

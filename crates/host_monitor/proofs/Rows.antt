@@ -11,13 +11,13 @@ use Rattle.bas_names.specs.declared.StreamName.TheVariants.{File, ConIn, ConOut,
 use Rattle.bas_edge.specs.Files.{Files, file_of}
 use Rattle.abi_calls.specs.declared.limits.TheConstants.{LONGEST_NAME, MOST_BYTES}
 use Rattle.abi_calls.specs.declared.call.Call.{Call}
-use Rattle.abi_calls.specs.declared.call.Call.TheVariants.{StreamOpen, StreamRead, StreamWrite, StreamLength}
+use Rattle.abi_calls.specs.declared.call.Call.TheVariants.{StreamOpen, StreamRead, StreamWrite, StreamLength, StreamSetLength}
 use Rattle.abi_calls.specs.declared.object.Object.TheVariants.{Stream}
 use Rattle.abi_calls.specs.declared.reply.Reply.{Reply}
 use Rattle.abi_calls.specs.declared.reply.Reply.TheVariants.{Done, Handle, Bytes, Count, Length, BadHandle, NotFound, NoAccess, TooBig}
 use Rattle.abi_calls.specs.Objects.{Object, Objects, object_at, with_object, IsFresh}
 use Rattle.abi_calls.specs.World.{World, Contents, Told, Tells, world_of, on_contents, some_contents}
-use Rattle.abi_calls.specs.Streams.{stream_of, file_open_row, open_found, open_answer, stream_open_row, read_row, stream_read_row, write_row, stream_write_row, length_row, stream_length_row}
+use Rattle.abi_calls.specs.Streams.{stream_of, file_open_row, open_found, open_answer, stream_open_row, read_row, stream_read_row, write_row, stream_write_row, length_row, stream_length_row, set_length_row, stream_set_length_row}
 use Rattle.abi_calls.specs.Abi.{Abi, Answers, answer, is_outside, is_file}
 use Rattle.abi_calls.specs.Failing.{IsPartWritten, IsPartTaken, Leaves, with_text, without_front}
 use Rattle.abi_calls.specs.Failing.Leaves.{Nothing, Part}
@@ -225,6 +225,35 @@ length_of_output {o} {told} {told'} {stream} is e = length_of_console ConOut is 
 pub length_of_errors : {o : Objects} {told told' : Told} {stream : ℕ} → stream_of (object_at o stream) ≡ Some ConErr → told' ≡ told → IsAnswered o told (StreamLength stream) NoAccess o told'
 length_of_errors {o} {told} {told'} {stream} is e = length_of_console ConErr is (λ x. refl) e
 
+-- ---- StreamSetLength
+none_resized_at : (w : World) (x : Option Object) (size : ℕ) → stream_of x ≡ None → stream_set_length_row w size x ≡ (BadHandle, w)
+none_resized_at w (Some (Stream name)) size none = absurd (cc)
+none_resized_at w _ size none = refl
+
+pub resize_bad : {o : Objects} {told told' : Told} {stream size : ℕ} → stream_of (object_at o stream) ≡ None → told' ≡ told → IsAnswered o told (StreamSetLength stream size) BadHandle o told'
+resize_bad {o} {told} {told'} {stream} {size} none e =
+    let x = some_contents told in
+    answered_same x (Tells-some_contents told) e (record { choice = tt; row = none_resized_at (world_of o x) (object_at o stream) size none })
+
+-- The length of the console can't be set.
+resize_of_console : {o : Objects} {told told' : Told} {stream size : ℕ} (name : StreamName) → stream_of (object_at o stream) ≡ Some name → ((x : Contents) → set_length_row x size name ≡ (NoAccess, x)) → told' ≡ told
+    → IsAnswered o told (StreamSetLength stream size) NoAccess o told'
+resize_of_console {o} {told} {told'} {stream} {size} name is none e =
+    let x = some_contents told in
+    answered_same x (Tells-some_contents told) e (record {
+      choice = tt;
+      row = ap (stream_set_length_row (world_of o x) size) (stream_at (object_at o stream) is) ∙ ap (on_contents (world_of o x)) (none x);
+    })
+
+pub resize_of_input : {o : Objects} {told told' : Told} {stream size : ℕ} → stream_of (object_at o stream) ≡ Some ConIn → told' ≡ told → IsAnswered o told (StreamSetLength stream size) NoAccess o told'
+resize_of_input {o} {told} {told'} {stream} {size} is e = resize_of_console ConIn is (λ x. refl) e
+
+pub resize_of_output : {o : Objects} {told told' : Told} {stream size : ℕ} → stream_of (object_at o stream) ≡ Some ConOut → told' ≡ told → IsAnswered o told (StreamSetLength stream size) NoAccess o told'
+resize_of_output {o} {told} {told'} {stream} {size} is e = resize_of_console ConOut is (λ x. refl) e
+
+pub resize_of_errors : {o : Objects} {told told' : Told} {stream size : ℕ} → stream_of (object_at o stream) ≡ Some ConErr → told' ≡ told → IsAnswered o told (StreamSetLength stream size) NoAccess o told'
+resize_of_errors {o} {told} {told'} {stream} {size} is e = resize_of_console ConErr is (λ x. refl) e
+
 -- ---- StreamOpen
 -- What can be opened gets a new number.
 answered_opened : {o o' : Objects} {told told' : Told} {name : StreamName} {number : ℕ} (x : Contents) → Tells told x
@@ -390,5 +419,7 @@ pub ruleset reads = (read_bad, read_too_big, read_file, read_input, read_output,
 pub ruleset writes = (write_bad, write_too_big, write_no_access, write_output, write_errors, is_file-stream, leaves_same, leaves_output, leaves_errors)
 
 pub ruleset measures = (length_bad, length_of_file, length_of_input, length_of_output, length_of_errors, leaves_same)
+
+pub ruleset resizes = (resize_bad, resize_of_input, resize_of_output, resize_of_errors, is_file-stream, leaves_same)
 
 pub ruleset rows = (row_answered, leaves_same)

@@ -1,18 +1,37 @@
 ghost use Rattle.std.specs.Prelude.{◌≡◌, IfOk, OnOk, OnErr, IsErrOf};
 ghost use Rattle.bas_edge.specs.Faults.{HasCause};
-ghost use Rattle.abi_calls.specs.Abi.{IsTaken};
 ghost use Rattle.abi_calls.specs.Failing.{Leaves};
 ghost use Rattle.host_objects.specs.Objects.{objects_of};
 ghost use Rattle.host_monitor.specs.Answers.{IsAnswered};
+ghost use Rattle.host_monitor.specs.Answers as answers;
 
 use crate::edges::Edges;
-use crate::streams::{open_stream, read_stream, stream_length, write_stream};
-use abi_calls::{Call, Reply};
+use crate::streams::{open_stream, read_stream, set_stream_length, stream_length, write_stream};
+use abi_calls::{Call, Reply, StreamName};
 use bas_edge::EdgeError;
 use host_objects::{Numbers, Objects};
 use std::alloc::Global;
 
-/// Answers a call, from the objects alone or from the outside too.
+/// Whether a call may change files.
+fn changes_files<N: Numbers + Drop>(objects: &Objects<N>, call: &Call) -> bool
+    ensures { result ≡ answers.changes_files (objects_of objects.now) call.now }
+{
+    match call {
+        Call::StreamOpen {
+            create,
+            exclusive,
+            ..
+        } => *create || *exclusive,
+        Call::StreamWrite { stream, .. } | Call::StreamSetLength { stream, .. } => {
+            matches!(objects.stream(*stream), Some(StreamName::File(_)))
+        }
+        Call::StreamDelete { .. } | Call::StreamRename { .. } => true,
+        _ => false,
+    }
+}
+
+/// Answers a call, from the objects alone or from the outside too. A call that may change files isn't answered
+/// yet: there is no memory for it.
 #[tactic(auto, using(crate::proofs::Rows::rows))]
 pub(crate) fn serve<W: Edges, N: Numbers + Drop>(
     alloc: Global,
@@ -20,7 +39,6 @@ pub(crate) fn serve<W: Edges, N: Numbers + Drop>(
     outside: &mut W,
     call: &Call,
 ) -> Result<Reply, EdgeError>
-    requires { IsTaken (objects_of objects.old) call.now }
     ensures row { IfOk result (λ reply. IsAnswered (objects_of objects.old) (W.told outside.old)
         call.now reply (objects_of objects.new) (W.told outside.new)) }
     ensures left { Leaves (objects_of objects.old) call.now
@@ -32,6 +50,9 @@ pub(crate) fn serve<W: Edges, N: Numbers + Drop>(
     ensures want { IsErrOf result EdgeError.Memory
         → W.fault_count outside.new ≡ W.fault_count outside.old }
 {
+    if changes_files(objects, call) {
+        return Err(EdgeError::Memory);
+    }
     match call {
         Call::StreamOpen { name, .. } => open_stream(objects, outside, name),
         Call::StreamRead {
@@ -45,6 +66,10 @@ pub(crate) fn serve<W: Edges, N: Numbers + Drop>(
             bytes,
         } => write_stream(objects, outside, *stream, *offset, bytes.as_slice()),
         Call::StreamLength { stream } => stream_length(objects, outside, *stream),
+        Call::StreamSetLength { stream, length } => {
+            set_stream_length(objects, outside, *stream, *length)
+        }
+        Call::StreamDelete { .. } | Call::StreamRename { .. } => unreachable!(),
         _ => Ok(objects.call(call)?),
     }
 }

@@ -1,7 +1,7 @@
 ghost use Rattle.std.specs.Prelude.{◌≡◌, false, IfOk, OnOk, OnErr, IsErrOf};
 ghost use Rattle.bas_edge.specs.Faults.{HasCause};
 ghost use Rattle.bas_names.specs.declared.StreamName.TheVariants.{File};
-ghost use Rattle.abi_calls.specs.declared.call.Call.TheVariants.{StreamOpen, StreamRead, StreamWrite, StreamLength};
+ghost use Rattle.abi_calls.specs.declared.call.Call.TheVariants.{StreamOpen, StreamRead, StreamWrite, StreamLength, StreamSetLength};
 ghost use Rattle.abi_calls.specs.Objects.{object_at};
 ghost use Rattle.abi_calls.specs.Abi.{is_file};
 ghost use Rattle.abi_calls.specs.Failing.{Leaves};
@@ -171,6 +171,34 @@ pub(crate) fn stream_length<W: Edges, N: Numbers + Drop>(
             let length = outside.file_length(file.as_slice())?;
             Ok(Reply::Length(length.unwrap_or(0)))
         }
+        StreamName::ConIn | StreamName::ConOut | StreamName::ConErr => Ok(Reply::NoAccess),
+    }
+}
+
+/// StreamSetLength of a stream that is no file.
+#[tactic(auto, using(crate::proofs::Rows::resizes))]
+pub(crate) fn set_stream_length<W: Edges, N: Numbers + Drop>(
+    objects: &Objects<N>,
+    outside: &mut W,
+    stream: u64,
+    length: u64,
+) -> Result<Reply, EdgeError>
+    requires { is_file (object_at (objects_of objects.now) stream) ≡ false }
+    ensures row { IfOk result (λ reply. IsAnswered (objects_of objects.now) (W.told outside.old)
+        (StreamSetLength stream length) reply (objects_of objects.now) (W.told outside.new)) }
+    ensures left { Leaves (objects_of objects.now) (StreamSetLength stream length)
+        (W.told outside.old) (W.told outside.new) }
+    ensures cause { HasCause EdgeError.Failed
+        (W.fault_count outside.old) (W.fault_count outside.new) result }
+    ensures unfaulted { OnOk result (W.fault_count outside.new ≡ W.fault_count outside.old) }
+    ensures want { IsErrOf result EdgeError.Memory
+        → W.fault_count outside.new ≡ W.fault_count outside.old }
+{
+    let Some(name) = objects.stream(stream) else {
+        return Ok(Reply::BadHandle);
+    };
+    match name {
+        StreamName::File(_) => unreachable!(),
         StreamName::ConIn | StreamName::ConOut | StreamName::ConErr => Ok(Reply::NoAccess),
     }
 }

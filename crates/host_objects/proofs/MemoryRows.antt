@@ -7,21 +7,21 @@ use Rattle.std.specs.declared.option.Option.TheVariants.{None, Some}
 use Rattle.std.proofs.Common.{refl, sym, ap, subst, ◌∙◌, cond, arith}
 use Rattle.std.proofs.lemmas.Bool.{and_from, and_parts, cond-true, cond-false, lt-ltb, le-leb, le-ltb}
 use Rattle.std.proofs.lemmas.Bool.Decides.{nat_tests}
-use Rattle.guest_space.specs.Space.{Frame, Space, IsSpace, memory_of, with_run, protected, with_memory}
+use Rattle.guest_space.specs.Space.{Frame, Space, IsSpace, memory_of, with_run, without_run, protected, with_memory}
 use Rattle.guest_space.specs.Run.{is_run, first_held, first_missing, if_missing}
 use Rattle.guest_space.proofs.FirstSome.{first_some_none_at}
 use Rattle.guest_space.specs.Access.{AccessFault, Missing, Forbidden, first_fault, with_bytes}
 use Rattle.guest_memory.specs.declared.error.PageError.{PageError}
 use Rattle.guest_memory.specs.declared.error.PageError.TheVariants.{Overlap, Unmapped, Range, Full, Memory as NoMemory}
-use Rattle.guest_memory.specs.Refusals.{allocate_refusal, protect_refusal}
+use Rattle.guest_memory.specs.Refusals.{allocate_refusal, free_refusal, protect_refusal}
 use Rattle.abi_calls.specs.declared.object.Object.TheVariants.{Process}
 use Rattle.abi_calls.specs.declared.call.Call.{Call}
-use Rattle.abi_calls.specs.declared.call.Call.TheVariants.{MemoryAllocate, MemoryProtect, MemoryWrite}
+use Rattle.abi_calls.specs.declared.call.Call.TheVariants.{MemoryAllocate, MemoryFree, MemoryProtect, MemoryWrite}
 use Rattle.abi_calls.specs.declared.reply.Reply.{Reply}
 use Rattle.abi_calls.specs.declared.reply.Reply.TheVariants.{Handle, Done, Exists, NoRoom, BadAddress}
 use Rattle.abi_calls.specs.Objects.{Objects, Live, object_at, running}
 use Rattle.abi_calls.specs.World.{World, world_of}
-use Rattle.abi_calls.specs.Memory.{with_pages, memory_allocate_row, memory_protect_row, memory_write_row, unless_fault}
+use Rattle.abi_calls.specs.Memory.{with_pages, memory_allocate_row, memory_free_row, memory_protect_row, memory_write_row, unless_fault}
 use Rattle.abi_calls.specs.Abi.{object_row, IsFreeChoice}
 use Rattle.bas_items.proofs.NumberMaps.{get-insert-same, insert-insert, insert-present}
 use Rattle.host_objects.specs.Rows.{Row}
@@ -198,6 +198,41 @@ pub protect_refused : (o o1 o2 : Objects) (p page count rights : ℕ) (s s' : Sp
 protect_refused o o1 o2 p page count rights s s' error took e same sound some =
     row_refused o o1 o2 p s s' (MemoryProtect p page count rights) BadAddress took e same tt (
     ap (memory_protect_row o p page count rights) (took_runs o o1 p s took) ∙ protect_answer o p page count rights s error sound some)
+
+-- ---- MemoryFree
+freed_at : (none ok : Bool) (missing : Option ℕ) → cond ok (option_map Unmapped missing) (Some Range) ≡ None → (ok ≡ true → none ≡ false) → (none || is_some missing) ≡ false
+freed_at none false missing is has = absurd (cc)
+freed_at none true (Some page) is has = absurd (cc)
+freed_at none true None is has = ap (λ b. b || false) (has refl)
+
+free_granted : (o : Objects) (p page count : ℕ) (s : Space) → free_refusal s page count ≡ None → memory_free_row o p page count (Some s) ≡ (Done, with_pages o p (without_run s page count))
+free_granted o p page count s none =
+    cond-false _ _ _ (freed_at (count == 0) (is_run page count) (first_missing s page count) none
+    (λ ok. let run = and_parts (nat_lt 0 page && nat_lt 0 count) (nat_le (page + count) (2 ^ 26)) ok in let some : nat_lt 0 count ≡ true = (and_parts (nat_lt 0 page) (nat_lt 0 count) run.0).1 in grind (arith, nat_tests)))
+
+free_test : (s : Space) (page count : ℕ) (e : PageError) → IsSpace s → (missing : Option ℕ) → first_missing s page count ≡ missing → cond (is_run page count) (option_map Unmapped missing) (Some Range) ≡ Some e → (count == 0 || is_some missing) ≡ true
+free_test s page count e sound (Some q) is some = elim (count == 0) as (λ b. (b || true) ≡ true) [ true ↦ refl | false ↦ refl ]
+free_test s page count e sound None is some =
+    elim (count == 0) as (λ b. (count == 0) ≡ b → (b || false) ≡ true) [
+      | true ↦ λ zero. refl
+      | false ↦ λ more.
+          let one : 1 ≤ count = grind (arith, nat_tests) in
+          let run : is_run page count ≡ true = held_run s page count sound is one in
+          let none : cond {A = Option PageError} (is_run page count) None (Some Range) ≡ None = cond-true _ _ _ run in
+          absurd (cc)
+    ] refl
+
+pub free_done : (o o1 o2 : Objects) (p page count : ℕ) (s s' : Space) → Took o p o1 s → o2 ≡ with_pages o1 p s' → s' ≡ without_run s page count → free_refusal s page count ≡ None → Row o (MemoryFree p page count) Done o2
+free_done o o1 o2 p page count s s' took e run none =
+    row_changed o o1 o2 p s s' (MemoryFree p page count) took e (
+    ap (memory_free_row o p page count) (took_runs o o1 p s took) ∙ free_granted o p page count s none
+    ∙ ap (λ m. (Done, with_pages o p m)) (sym run))
+
+pub free_refused : (o o1 o2 : Objects) (p page count : ℕ) (s s' : Space) (error : PageError) → Took o p o1 s → o2 ≡ with_pages o1 p s' → s' ≡ s → IsSpace s → free_refusal s page count ≡ Some error → Row o (MemoryFree p page count) BadAddress o2
+free_refused o o1 o2 p page count s s' error took e same sound some =
+    row_refused o o1 o2 p s s' (MemoryFree p page count) BadAddress took e same tt (
+    ap (memory_free_row o p page count) (took_runs o o1 p s took)
+    ∙ cond-true _ _ _ (free_test s page count error sound (first_missing s page count) refl some))
 
 -- ---- MemoryWrite
 pub write_done : (o o1 o2 : Objects) (p address : ℕ) (bytes : List ℕ) (s s' : Space) → Took o p o1 s → o2 ≡ with_pages o1 p s' → length bytes ≤ 65536 → s' ≡ with_memory s (with_bytes (memory_of s) address bytes) → first_fault (memory_of s) 2 address (length bytes) ≡ None → Row o (MemoryWrite p address bytes) Done o2

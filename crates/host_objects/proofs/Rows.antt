@@ -12,12 +12,12 @@ use Rattle.turn_sched.specs.Lists.{Lists, with_suspended, mentions_number, witho
 use Rattle.turn_sched.specs.Schedules.{is_listed, without_thread}
 use Rattle.abi_calls.specs.declared.object.Object.TheVariants.{Process, Thread, Event, Stream}
 use Rattle.abi_calls.specs.declared.call.Call.{Call}
-use Rattle.abi_calls.specs.declared.call.Call.TheVariants.{ThreadCreate, EventCreate, StreamOpen, StreamRead, StreamWrite, StreamLength, Close, ProcessCreate}
+use Rattle.abi_calls.specs.declared.call.Call.TheVariants.{ThreadCreate, ThreadExit, EventCreate, StreamOpen, StreamRead, StreamWrite, StreamLength, StreamSetLength, StreamDelete, StreamRename, Share, Close, ProcessCreate}
 use Rattle.abi_calls.specs.declared.reply.Reply.{Reply}
 use Rattle.abi_calls.specs.declared.reply.Reply.TheVariants.{Handle, Done, BadHandle, Busy}
-use Rattle.abi_calls.specs.Objects.{Object, Objects, Live, Pipes, IsFresh, object_at, running, number_of, is_thread, is_process, without_handles, has_end}
-use Rattle.abi_calls.specs.Threads.{thread_create_row}
-use Rattle.abi_calls.specs.Streams.{stream_read_row, stream_write_row, stream_length_row}
+use Rattle.abi_calls.specs.Objects.{Object, Objects, Live, Pipes, IsFresh, object_at, running, number_of, is_thread, is_some_thread, is_process, without_handles, has_end}
+use Rattle.abi_calls.specs.Threads.{thread_create_row, thread_exit_row}
+use Rattle.abi_calls.specs.Streams.{stream_read_row, stream_write_row, stream_length_row, stream_set_length_row, shared_object, share_row}
 use Rattle.abi_calls.specs.Processes.{close_row, is_running}
 use Rattle.abi_calls.specs.World.{Contents, world_of}
 use Rattle.abi_calls.specs.Abi.{Abi, answer, object_row, is_outside, is_stream}
@@ -55,6 +55,13 @@ thread_made : (o : Objects) (p : ℕ) (context : Context) (h : ℕ) (memory : Op
 thread_made o p context h None runs few = absurd (cc)
 thread_made o p context h (Some s) runs few = cond-false _ _ _ few
 
+-- Share adds what its handle names.
+pub share_added : (o o' : Objects) (live' : Live) (s h : ℕ) (x : Object) → IsSound o → shared_object (object_at o s) ≡ Some x → Adds o.live x live' h → o' ≡ record o { live = live' } → Row o (Share s) (Handle h) o'
+share_added o o' live' s h x sound is adds e =
+    row_new o o' (Share s) h (fresh_added o live' x h sound adds)
+    (ap (λ z. share_row o z h) is
+    ∙ sym (ap {A = Objects} (λ p. (Handle h, p)) e ∙ ap {A = Live} (λ m. (Handle h, record o { live = m })) adds.now))
+
 pub thread_row : (o o' : Objects) (live' : Live) (p : ℕ) (context : Context) (h : ℕ) → IsSound o → is_some (running (object_at o p)) ≡ true → nat_le 64 (number_of is_thread o.live) ≡ false → Adds o.live (Thread p context) live' h → o' ≡ record o { live = live'; lists = with_suspended o.lists h } → Row o (ThreadCreate p context) (Handle h) o'
 thread_row o o' live' p context h sound runs few adds e =
     row_new o o' (ThreadCreate p context) h (fresh_added o live' _ h sound adds)
@@ -84,6 +91,17 @@ ended_objects o o' h l none lists e =
       positions = o.positions;
       settings = o.settings;
     }) ∙ sym e
+
+-- ThreadExit ends a thread.
+thread_exit_row-thread : (o : Objects) (t : ℕ) (x : Option Object) → is_some_thread x ≡ true → thread_exit_row o t x ≡ (Done, without_handles o (λ k. k == t))
+thread_exit_row-thread o t (Some (Thread p context)) thread = refl
+thread_exit_row-thread o t _ thread = absurd (cc)
+
+pub thread_ended_row : (o o' : Objects) (t : ℕ) (l : Lists ℕ) → is_some_thread (object_at o t) ≡ true → o.pipes ≡ empty → o.lists ≡ world_lists l → o' ≡ record o { live = remove o.live t; lists = world_lists (without_thread l t) } → Row o (ThreadExit t) Done o'
+thread_ended_row o o' t l thread none lists e = record {
+  choice = λ y. tt;
+  row = thread_exit_row-thread o t (object_at o t) thread ∙ ap {A = Objects} (λ q. (Done, q)) (ended_objects o o' t l none lists e);
+}
 
 -- Close ends what is no thread and no running process.
 close_row-busy : (o : Objects) (h : ℕ) (x : Object) → (is_thread x || is_running x) ≡ true → close_row o h (Some x) ≡ (Busy, o)
@@ -122,11 +140,18 @@ length_inside : (o : Objects) (x : Contents) (y : Option Object) → is_stream y
 length_inside o x (Some (Stream name)) inside = absurd (cc)
 length_inside o x _ inside = refl
 
+set_length_inside : (o : Objects) (x : Contents) (size : ℕ) (y : Option Object) → is_stream y ≡ false → stream_set_length_row (world_of o x) size y ≡ (BadHandle, world_of o x)
+set_length_inside o x size (Some (Stream name)) inside = absurd (cc)
+set_length_inside o x size _ inside = refl
+
 pub answer-inside : (o : Objects) (x : Contents) (call : Call) (r : Reply) → is_outside o call ≡ false → answer (world_of o x) call r ≡ ((object_row o call r).0, world_of (object_row o call r).1 x)
 answer-inside o x (StreamOpen name create exclusive) r inside = absurd (cc)
 answer-inside o x (StreamRead stream offset count) r inside = read_inside o x offset count r (object_at o stream) inside
 answer-inside o x (StreamWrite stream offset bytes) r inside = write_inside o x offset bytes r (object_at o stream) inside
 answer-inside o x (StreamLength stream) r inside = length_inside o x (object_at o stream) inside
+answer-inside o x (StreamSetLength stream size) r inside = set_length_inside o x size (object_at o stream) inside
+answer-inside o x (StreamDelete name) r inside = absurd (cc)
+answer-inside o x (StreamRename from to) r inside = absurd (cc)
 answer-inside o x _ r inside = refl
 
 -- A row on the objects is one of the world, whatever its contents are.

@@ -27,6 +27,11 @@ impl<N: Numbers + Drop> System<N> {
                 count,
                 rights,
             } => self.memory_allocate(*process, *page, *count, *rights),
+            Call::MemoryFree {
+                process,
+                page,
+                count,
+            } => Ok(self.memory_free(*process, *page, *count)),
             Call::MemoryProtect {
                 process,
                 page,
@@ -45,19 +50,26 @@ impl<N: Numbers + Drop> System<N> {
             } => Ok(self.memory_write(*process, *address, bytes.as_slice())),
             Call::ThreadCreate { process, context } => self.thread_create(*process, *context),
             Call::ThreadResume { thread } => Ok(self.thread_resume(*thread)),
+            Call::ThreadExit { thread } => Ok(self.thread_exit(*thread)),
             Call::ThreadContext { thread, context } => Ok(self.thread_context(*thread, *context)),
             Call::EventCreate => self.event_create(),
+            Call::Share { stream } => self.share(*stream),
             Call::Close { handle } => Ok(self.close(*handle)),
             Call::ProcessCreate => self.process_create(),
             Call::ProcessExit { process, code } => Ok(self.process_exit(*process, *code)),
+            Call::ProcessStatus { process } => Ok(self.process_status(*process)),
             Call::Configure {
                 settings,
                 positions,
             } => self.configure(settings, *positions),
-            Call::StreamRead { .. } | Call::StreamWrite { .. } | Call::StreamLength { .. } => {
-                Ok(Reply::BadHandle)
+            Call::Positions => Ok(Reply::Places(self.positions)),
+            Call::StreamRead { .. }
+            | Call::StreamWrite { .. }
+            | Call::StreamLength { .. }
+            | Call::StreamSetLength { .. } => Ok(Reply::BadHandle),
+            Call::StreamOpen { .. } | Call::StreamDelete { .. } | Call::StreamRename { .. } => {
+                unreachable!()
             }
-            Call::StreamOpen { .. } => unreachable!(),
         }
     }
 }

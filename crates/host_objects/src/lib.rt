@@ -11,6 +11,7 @@ mod numbers;
 mod objects;
 mod processes;
 mod settings;
+mod streams;
 mod system;
 mod table;
 mod threads;

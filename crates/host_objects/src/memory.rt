@@ -1,5 +1,5 @@
 ghost use Rattle.std.specs.Prelude.{◌≡◌, ◌<◌, ◌^◌, All, length, nat_le, IfOk, OnErr, IsSome, MatchOption};
-ghost use Rattle.abi_calls.specs.declared.call.Call.TheVariants.{MemoryAllocate, MemoryProtect, MemoryRead, MemoryWrite};
+ghost use Rattle.abi_calls.specs.declared.call.Call.TheVariants.{MemoryAllocate, MemoryFree, MemoryProtect, MemoryRead, MemoryWrite};
 ghost use Rattle.abi_calls.specs.Objects.{object_at};
 ghost use Rattle.abi_calls.specs.Memory.{with_pages};
 ghost use Rattle.host_objects.specs.System.{system_objects};
@@ -96,6 +96,24 @@ impl<N: Numbers + Drop> System<N> {
         match outcome {
             Ok(()) => Ok(Reply::Done),
             Err(error) => unallocated(error),
+        }
+    }
+
+    /// MemoryFree.
+    pub(crate) fn memory_free(&mut self, process: u64, page: u64, count: u64) -> Reply
+        ensures { Row (system_objects self.old) (MemoryFree process page count)
+            result (system_objects self.new) }
+    {
+        let Some(mut memory) = self.take_memory(process) else {
+            return Reply::BadHandle;
+        };
+        // By its length the pages are known to be ones that a process may have.
+        let _ = memory.len();
+        let outcome = memory.free(page, count);
+        self.put_memory(process, memory);
+        match outcome {
+            Ok(()) => Reply::Done,
+            Err(_) => Reply::BadAddress,
         }
     }
 

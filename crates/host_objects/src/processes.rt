@@ -1,5 +1,5 @@
 ghost use Rattle.std.specs.Prelude.{◌≡◌, true, IfOk, IfSome, IfNone, OnErr};
-ghost use Rattle.abi_calls.specs.declared.call.Call.TheVariants.{Close, ProcessCreate, ProcessExit, Configure};
+ghost use Rattle.abi_calls.specs.declared.call.Call.TheVariants.{Close, ProcessCreate, ProcessExit, ProcessStatus, Configure};
 ghost use Rattle.abi_calls.specs.Objects.{object_at, is_thread_of};
 ghost use Rattle.abi_calls.specs.Processes.{without_threads};
 ghost use Rattle.abi_calls.specs.Sound.{IsSound};
@@ -97,6 +97,20 @@ impl<N: Numbers + Drop> System<N> {
         match self.handles.get(number) {
             Some(Object::Thread { process: home, .. }) => *home == process,
             _ => false,
+        }
+    }
+
+    /// ProcessStatus.
+    pub(crate) fn process_status(&self, process: u64) -> Reply
+        ensures { Row (system_objects self.now) (ProcessStatus process)
+            result (system_objects self.now) }
+    {
+        let Some(Object::Process { code, .. }) = self.handles.get(process) else {
+            return Reply::BadHandle;
+        };
+        match *code {
+            Some(code) => Reply::Exited(code),
+            None => Reply::Running,
         }
     }
 

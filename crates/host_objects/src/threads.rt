@@ -1,5 +1,5 @@
 ghost use Rattle.std.specs.Prelude.{◌≡◌, IfOk, OnErr};
-ghost use Rattle.abi_calls.specs.declared.call.Call.TheVariants.{ThreadCreate, ThreadResume, ThreadContext, EventCreate};
+ghost use Rattle.abi_calls.specs.declared.call.Call.TheVariants.{ThreadCreate, ThreadResume, ThreadExit, ThreadContext, EventCreate};
 ghost use Rattle.abi_calls.specs.Sound.{IsSound};
 ghost use Rattle.host_objects.specs.System.{system_objects};
 ghost use Rattle.host_objects.specs.Rows.{Row};
@@ -45,6 +45,19 @@ impl<N: Numbers + Drop> System<N> {
         } else {
             Reply::Busy
         }
+    }
+
+    /// ThreadExit.
+    pub(crate) fn thread_exit(&mut self, thread: u64) -> Reply
+        ensures { Row (system_objects self.old) (ThreadExit thread)
+            result (system_objects self.new) }
+    {
+        let Some(Object::Thread { .. }) = self.handles.get(thread) else {
+            return Reply::BadHandle;
+        };
+        self.handles.end(thread);
+        self.schedule.leave(thread);
+        Reply::Done
     }
 
     /// ThreadContext.

@@ -4,7 +4,7 @@ use Rattle.std.proofs.lemmas.Bool.{false≢true}
 use Rattle.std.specs.declared.option.Option.TheVariants.{Some}
 use Rattle.std.proofs.Common.{ap}
 use Rattle.abi_calls.specs.declared.call.Call.{Call}
-use Rattle.abi_calls.specs.declared.call.Call.TheVariants.{StreamOpen, StreamRead, StreamWrite}
+use Rattle.abi_calls.specs.declared.call.Call.TheVariants.{StreamOpen, StreamRead, StreamWrite, StreamSetLength, StreamDelete, StreamRename}
 use Rattle.abi_calls.specs.declared.reply.Reply.{Reply}
 use Rattle.abi_calls.specs.Objects.{Objects, object_at}
 use Rattle.abi_calls.specs.World.{World, Contents, Told, WhereTold, whole, world_of}
@@ -12,11 +12,14 @@ use Rattle.abi_calls.specs.Abi.{Answers, IsTaken, is_file}
 use Rattle.abi_calls.proofs.Effects.{Effects, has-Abi}
 use Rattle.turn_engine.proofs.Telling.{whole_tells, whole_stays}
 
--- A call that makes no file, reads none of the console's input and writes nothing.
+-- A call that changes no file, reads none of the console's input and writes nothing.
 abbrev pub IsQuiet : Objects → Call → Type 0
 IsQuiet o (StreamOpen name create exclusive) = create ≡ false
 IsQuiet o (StreamRead stream offset count) = is_file (object_at o stream) ≡ true
 IsQuiet o (StreamWrite stream offset bytes) = ⊥
+IsQuiet o (StreamSetLength stream size) = ⊥
+IsQuiet o (StreamDelete name) = ⊥
+IsQuiet o (StreamRename from to) = ⊥
 IsQuiet o _ = Unit {0}
 
 abbrev Keeps : World → Call → Reply → World → Type 0
@@ -26,10 +29,12 @@ effects : (w : World) → Effects w (Keeps w)
 effects w = record {
   stays = λ _ _ _ _. refl;
   allocates = λ _ _ _ _ _ _ _ _ _ _ _. refl;
+  frees = λ _ _ _ _ _ _. refl;
   protects = λ _ _ _ _ _ _ _ _. refl;
   fills = λ _ _ _ _ _ _. refl;
   makes_thread = λ _ _ _ _ _ _ _. refl;
   resumes = λ _ _ _ _ _ _. refl;
+  ends_thread = λ _ _ _ _ _. refl;
   registers = λ _ _ _ _ _ _ _. refl;
   makes_event = λ _ _. refl;
   opens = λ _ _ _ _ _ _. refl;
@@ -38,6 +43,10 @@ effects w = record {
   writes_file = λ _ _ _ _ _ quiet. absurd quiet;
   writes_output = λ _ _ _ _ quiet. absurd quiet;
   writes_errors = λ _ _ _ _ quiet. absurd quiet;
+  sets_length = λ _ _ _ _ _ quiet. absurd quiet;
+  deletes = λ _ _ _ _ quiet. absurd quiet;
+  renames = λ _ _ _ _ _ _ _ quiet. absurd quiet;
+  shares = λ _ _ _ _ _. refl;
   ends = λ _ _ _ _ _ _. refl;
   makes_process = λ _ _ _. refl;
   exits = λ _ _ _ _ _. refl;
@@ -62,10 +71,12 @@ file_effects : (w : World) → Effects w (KeepsFiles w)
 file_effects w = record {
   stays = λ _ _ _ _. refl;
   allocates = λ _ _ _ _ _ _ _ _ _ _ _. refl;
+  frees = λ _ _ _ _ _ _. refl;
   protects = λ _ _ _ _ _ _ _ _. refl;
   fills = λ _ _ _ _ _ _. refl;
   makes_thread = λ _ _ _ _ _ _ _. refl;
   resumes = λ _ _ _ _ _ _. refl;
+  ends_thread = λ _ _ _ _ _. refl;
   registers = λ _ _ _ _ _ _ _. refl;
   makes_event = λ _ _. refl;
   opens = λ _ _ _ _ _ _. refl;
@@ -74,6 +85,10 @@ file_effects w = record {
   writes_file = λ _ _ _ _ is taken. absurd (false≢true (sym taken ∙ ap is_file is));
   writes_output = λ _ _ _ _ _. refl;
   writes_errors = λ _ _ _ _ _. refl;
+  sets_length = λ _ _ _ is _ taken. absurd (false≢true (sym taken ∙ ap is_file is));
+  deletes = λ _ _ _ _ taken. absurd taken;
+  renames = λ _ _ _ _ _ _ _ taken. absurd taken;
+  shares = λ _ _ _ _ _. refl;
   ends = λ _ _ _ _ _ _. refl;
   makes_process = λ _ _ _. refl;
   exits = λ _ _ _ _ _. refl;
