@@ -1,0 +1,5 @@
+pub mod Users
+pub mod Names
+pub mod Found
+pub mod Rows
+pub mod InUse
