@@ -125,15 +125,6 @@ abbrev pub is_file : Option Object → Bool
 is_file (Some (Stream (File name))) = true
 is_file _ = false
 
--- The calls that change no file. The library OS asks for no other so far.
-abbrev pub IsTaken : Objects → Call → Type 0
-IsTaken o (StreamOpen name create exclusive) = (create ≡ false) × (exclusive ≡ false)
-IsTaken o (StreamWrite stream offset bytes) = is_file (object_at o stream) ≡ false
-IsTaken o (StreamSetLength stream size) = is_file (object_at o stream) ≡ false
-IsTaken o (StreamDelete name) = ⊥
-IsTaken o (StreamRename from to) = ⊥
-IsTaken o _ = Unit {0}
-
 -- A count that goes up by one, or stands at its end.
 abbrev pub counted_up : ℕ → ℕ
 counted_up n = min (n + 1) (2 ^ 64 - 1)

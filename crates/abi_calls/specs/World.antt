@@ -75,17 +75,3 @@ some_contents told = record {
   output = unwrap_or told.output [];
   errors = unwrap_or told.errors [];
 }
-
--- The contents, where each part is told.
-abbrev pub whole_of : Option Files → Option (List ℕ) → Option (List ℕ) → Option (List ℕ)
-    → Option Contents
-whole_of (Some files) (Some input) (Some output) (Some errors) =
-    Some (record { files = files; input = input; output = output; errors = errors })
-whole_of _ _ _ _ = None
-
-abbrev pub whole : Told → Option Contents
-whole told = whole_of told.files told.input told.output told.errors
-
--- Where all contents are told before, they are told after, and the two are so.
-pub record WhereTold (told told' : Told) (P : Contents → Contents → Type 0) : Type 0 where
-  pub holds : (x : Contents) → whole told ≡ Some x → (y : Contents) × (whole told' ≡ Some y) × P x y

@@ -1,5 +1,5 @@
 -- The run of /bin/hi, worked out.
-use Rattle.std.proofs.Common.{nat_lt, ◌≡◌, ◌≢◌, ℕ, suc, ◌+◌, ◌*◌, ◌%◌, ◌^◌, ◌<◌, true, if◌then◌else◌, List, [], ◌∷◌, ◌++◌, length, get_or, slice_index, slice_get, refl, ◌∙◌, ap, arith}
+use Rattle.std.proofs.Common.{nat_lt, ◌≡◌, ℕ, suc, ◌+◌, ◌*◌, ◌%◌, ◌^◌, ◌<◌, true, false, if◌then◌else◌, List, [], ◌∷◌, ◌++◌, length, get_or, slice_index, slice_get, refl, ◌∙◌, ap, arith}
 use Rattle.std.specs.Option.{option_or}
 use Rattle.std.specs.List.{All, list_all}
 use Rattle.std.proofs.lemmas.Bool.{and_parts, ltb-true}
@@ -19,14 +19,18 @@ use Rattle.guest_space.specs.Running.{Ran, run_space, ran_from}
 use Rattle.guest_space.proofs.Cells.{with_memory_same}
 use Rattle.bas_edge.specs.Files.{file_of}
 use Rattle.bas_names.specs.declared.StreamName.TheVariants.{ConOut, ConErr}
-use Rattle.abi_calls.specs.World.{Contents}
+use Rattle.turn_sched.specs.Lists.{Lists}
 use Rattle.bas_items.proofs.NumberMaps.{get-insert-same, get-insert-other}
-use Rattle.mono_model.specs.Machine.{Mono, Process, Thread, Description, process_at, thread_at, with_process, with_thread, exit_code, code_in, exited}
-use Rattle.mono_model.specs.Calls.{Caller, served, finished, ended, description_of, described_in, described_by, writable, write_to, write_unless, memory_in}
+use Rattle.std.specs.declared.result.Result.TheVariants.{Ok, Err}
+use Rattle.mono_model.specs.declared.ProgramRefusal.TheVariants.{Later}
+use Rattle.mono_model.specs.Readable.{Readable}
+use Rattle.mono_model.specs.Written.{nothing}
+use Rattle.mono_model.specs.Machine.{Mono, Process, Thread, Description, process_at, thread_at, with_process, with_thread, with_registers, exit_code, code_in, exited}
+use Rattle.mono_model.specs.Calls.{Caller, Served, silently, served, finished, ended, description_of, described_in, described_by, writable, write_to, write_unless, memory_in}
 use Rattle.mono_model.specs.Program.{headers, is_plain, plain_program}
 use Rattle.mono_model.specs.Starting.{argument_block, Runs, blank, begun, begun_from, started_if, boot, console_descriptors, console_descriptions}
-use Rattle.mono_model.specs.Turns.{Ending, Exited, pick_of, picked, with_memory_in, with_run, after_run, run_thread, turn_at, turn_of, run_of}
-use Rattle.mono_model.proofs.RunLaws.{run_exited, run_turn}
+use Rattle.mono_model.specs.Turns.{Ending, Exited, ends_as, behind, with_pick, with_memory_in, with_run_of, after_run, run_thread, turn_of, run_of}
+use Rattle.mono_model.proofs.RunLaws.{run_of-exited, run_of-turn}
 use Rattle.bascule_top.specs.Commands.{TURNS, start_settings, start_job}
 use Rattle.bascule_top.specs.Hello.{hello_name, hello_file, hello_text, SaysHello}
 use Rattle.bascule_top.proofs.Pages.{program_cell, begins_with, program_there, begins_in_space}
@@ -137,35 +141,42 @@ abbrev first_process : Space → Process
 first_process s = record { memory = s; code = None; descriptors = console_descriptors }
 
 abbrev first_thread : Context → Thread
-first_thread cx = record { process = 1; context = cx }
+first_thread cx = record { process = 1; context = cx; woken = false }
 
 abbrev caller : Context → Caller
 caller cx = record { thread = 1; process = 1; context = cx }
 
--- The thread of process 1 is ready, with these registers, in this memory.
+-- A machine whose thread 1 alone is ready, with the settings of a start.
+abbrev with_one_ready : Mono → Mono
+with_one_ready m = record m {
+  settings = start_settings;
+  lists = record { ready = 1 ∷ []; waiting = []; suspended = []; current = None };
+}
+
+-- It has these registers, in this memory.
 record IsReady (m : Mono) (s : Space) (cx : Context) : Type 0 where
-  settings : m.settings ≡ start_settings
-  ready : m.ready ≡ 1 ∷ []
   thread : thread_at m 1 ≡ Some (first_thread cx)
   process : process_at m 1 ≡ Some (first_process s)
   descriptions : m.descriptions ≡ console_descriptions
 
 -- The machine at the trap.
 abbrev at_trap : Mono → Space → Context → Mono
-at_trap m s cx = with_thread (with_process (picked m 0) 1 (first_process s)) 1 (first_thread cx)
+at_trap m s cx = with_thread (with_process (with_pick (with_one_ready m) 0) 1 (first_process s)) 1 (first_thread cx)
 
 turn_trapped : (m : Mono) (s : Space) (cx cx' : Context) (cause value : ℕ) → IsReady m s cx → run_space 1000 cx s ≡ record { context = cx'; space = s; trap = Some (cause, value) }
-    → turn_of m ≡ served (at_trap m s cx') (caller cx') cause
+    → turn_of (with_one_ready m) ≡ served (at_trap m s cx') (caller cx') (cause, value)
 unfolding turn_of
 turn_trapped m s cx cx' cause value is run =
-    let place : pick_of m ≡ 0 = λ i. slice_index (is.settings i).picks m.positions.pick % length (is.ready i) in
-    let ran : run_space m.settings.slice cx (memory_in (process_at m 1)) ≡ record { context = cx'; space = s; trap = Some (cause, value) } =
-    (λ i. run_space (is.settings i).slice cx (memory_in (is.process i))) ∙ run in
-    ap (λ (p : ℕ). turn_at m p (slice_get m.ready p)) place
-    ∙ ap (λ (ready : List ℕ). turn_at m 0 (slice_get ready 0)) is.ready
-    ∙ ap (λ (t : Option Thread). run_thread (picked m 0) 1 t) is.thread
-    ∙ ap (λ (r : Ran). after_run (with_run (picked m 0) 1 1 r) 1 1 r.context r.trap) ran
-    ∙ ap (λ (p : Option Process). served (with_thread (with_memory_in (picked m 0) 1 s p) 1 (first_thread cx')) (caller cx') cause) is.process
+    let picked : Mono = with_pick (with_one_ready m) 0 in
+    let ran : run_space 1000 cx (memory_in (process_at m 1)) ≡ record { context = cx'; space = s; trap = Some (cause, value) } =
+    ap (λ (p : Option Process). run_space 1000 cx (memory_in p)) is.process ∙ run in
+    ap (λ (t : Option Thread). run_thread picked 1 t) is.thread
+    ∙ ap (λ (r : Ran). after_run (with_run_of picked 1 1 r) 1 1 r.context r.trap) ran
+    ∙ (λ i. served (with_thread (with_memory_in picked 1 s (is.process i)) 1 (with_registers cx' (thread_in (is.process i)) 1)) (caller cx') (cause, value))
+    ∙ ap (λ (t : Option Thread). served (with_thread (with_process picked 1 (first_process s)) 1 (with_registers cx' t 1)) (caller cx') (cause, value)) is.thread
+  where
+    thread_in : Option Process → Option Thread
+    thread_in p = thread_at (with_memory_in (with_pick (with_one_ready m) 0) 1 s p) 1
 
 -- ---- the system calls
 
@@ -178,7 +189,7 @@ output_description =
 
 -- write(1, the text, 3)
 write_served : (m : Mono) (s : Space) → process_at m 1 ≡ Some (first_process s) → m.descriptions ≡ console_descriptions → HoldsHello (memory_of s)
-    → served m (caller (registers 0x1008c 1 0x1009c 3 64)) 8 ≡ finished (record m { output = m.output ++ hello_text }) (caller (registers 0x1008c 1 0x1009c 3 64)) 3
+    → served m (caller (registers 0x1008c 1 0x1009c 3 64)) (8, 0) ≡ (finished m (caller (registers 0x1008c 1 0x1009c 3 64)) 3, record { output = hello_text; errors = [] })
 write_served m s process descriptions holds =
     let who = caller (registers 0x1008c 1 0x1009c 3 64) in
     let open_output : description_of m 1 1 ≡ Some (record { stream = ConOut; access = 2 }) =
@@ -189,7 +200,7 @@ write_served m s process descriptions holds =
 
 -- ---- the run
 
-module _ (x : Contents) (s : Space) (space : IsSpace s) (holds : HoldsHello (memory_of s)) where
+module _ (x : Readable) (s : Space) (space : IsSpace s) (holds : HoldsHello (memory_of s)) where
   abbrev begins : Mono
   begins = begun (blank start_settings (record { turns = 0; pick = 0; random = 0 }) x) s (registers 0x10078 0 0 0 0)
 
@@ -197,7 +208,7 @@ module _ (x : Contents) (s : Space) (space : IsSpace s) (holds : HoldsHello (mem
   at_write = at_trap begins s (registers 0x1008c 1 0x1009c 3 64)
 
   abbrev has_written : Mono
-  has_written = finished (record at_write { output = x.output ++ hello_text }) (caller (registers 0x1008c 1 0x1009c 3 64)) 3
+  has_written = finished at_write (caller (registers 0x1008c 1 0x1009c 3 64)) 3
 
   abbrev at_exit : Mono
   at_exit = at_trap has_written s (registers 0x10098 0 0x1009c 3 93)
@@ -207,28 +218,30 @@ module _ (x : Contents) (s : Space) (space : IsSpace s) (holds : HoldsHello (mem
 
   begins_ready : IsReady begins s (registers 0x10078 0 0 0 0)
   begins_ready = record {
-    settings = refl;
-    ready = refl;
     thread = get-insert-same empty 1 (first_thread (registers 0x10078 0 0 0 0));
     process = get-insert-same empty 1 (first_process s);
     descriptions = refl;
   }
 
-  first_turn : turn_of begins ≡ has_written
+  first_turn : turn_of begins ≡ (has_written, record { output = hello_text; errors = [] })
   first_turn =
       turn_trapped begins s (registers 0x10078 0 0 0 0) (registers 0x1008c 1 0x1009c 3 64) 8 0 begins_ready (run_unwritten 1000 (registers 0x10078 0 0 0 0) (registers 0x1008c 1 0x1009c 3 64) s (Some (8, 0)) space (up_to_write (memory_of s) holds))
       ∙ write_served at_write s (get-insert-same begins.processes 1 (first_process s)) refl holds
 
+  -- the thread that wrote has its registers, and isn't woken
+  written_thread : thread_at has_written 1 ≡ Some (first_thread (registers 0x10090 3 0x1009c 3 64))
+  written_thread =
+      get-insert-same at_write.threads 1 _
+      ∙ ap (λ (t : Option Thread). Some (with_registers (registers 0x10090 3 0x1009c 3 64) t 1)) (get-insert-same begins.threads 1 (first_thread (registers 0x1008c 1 0x1009c 3 64)))
+
   written_ready : IsReady has_written s (registers 0x10090 3 0x1009c 3 64)
   written_ready = record {
-    settings = refl;
-    ready = refl;
-    thread = get-insert-same at_write.threads 1 (first_thread (registers 0x10090 3 0x1009c 3 64));
+    thread = written_thread;
     process = get-insert-same begins.processes 1 (first_process s);
     descriptions = refl;
   }
 
-  second_turn : turn_of has_written ≡ has_exited
+  second_turn : turn_of has_written ≡ silently has_exited
   second_turn =
       turn_trapped has_written s (registers 0x10090 3 0x1009c 3 64) (registers 0x10098 0 0x1009c 3 93) 8 0 written_ready
       (run_unwritten 1000 (registers 0x10090 3 0x1009c 3 64) (registers 0x10098 0 0x1009c 3 93) s (Some (8, 0)) space (up_to_exit (memory_of s) holds))
@@ -236,16 +249,13 @@ module _ (x : Contents) (s : Space) (space : IsSpace s) (holds : HoldsHello (mem
   has_code : exit_code has_exited 1 ≡ Some 0
   has_code = ap code_in (get-insert-same at_exit.processes 1 (exited 0))
 
-  some_ready : (let ready : List ℕ = 1 ∷ [] in ready ≢ [])
-  some_ready e = cc
-
-  whole_run : run_of TURNS begins ≡ record { end = Exited 0; last = has_exited }
+  whole_run : run_of TURNS begins ≡ behind (record { output = hello_text; errors = [] }) (behind nothing (ends_as (Exited 0) has_exited))
   whole_run =
-      run_turn 999999 begins (ap code_in begins_ready.process) some_ready
-      ∙ ap (λ (m : Mono). run_of 999999 m) first_turn
-      ∙ run_turn 999998 has_written (ap code_in written_ready.process) some_ready
-      ∙ ap (λ (m : Mono). run_of 999998 m) second_turn
-      ∙ run_exited 999998 has_exited 0 has_code
+      run_of-turn 999999 begins (ap code_in begins_ready.process) refl
+      ∙ ap (λ (t : Served). behind t.1 (run_of 999999 t.0)) first_turn
+      ∙ ap (behind (record { output = hello_text; errors = [] })) (run_of-turn 999998 has_written (ap code_in written_ready.process) refl
+      ∙ ap (λ (t : Served). behind t.1 (run_of 999998 t.0)) second_turn
+      ∙ ap (behind nothing) (run_of-exited 999998 has_exited 0 has_code))
 
   run_says_hello : boot start_settings x (start_job hello_name) ≡ Runs begins → SaysHello x
   run_says_hello booted = record {
@@ -253,8 +263,8 @@ module _ (x : Contents) (s : Space) (space : IsSpace s) (holds : HoldsHello (mem
     booted = booted;
     ends = ap (λ (r : Ending). r.end) whole_run;
     turns = ap (λ (r : Ending). r.last.positions.turns) whole_run;
-    output = ap (λ (r : Ending). r.last.output) whole_run;
-    errors = ap (λ (r : Ending). r.last.errors) whole_run;
+    output = ap (λ (r : Ending). r.written.output) whole_run;
+    errors = ap (λ (r : Ending). r.written.errors) whole_run;
     input = ap (λ (r : Ending). r.last.input) whole_run;
     files = ap (λ (r : Ending). r.last.files) whole_run;
   }
@@ -293,13 +303,13 @@ block_small = all_small (argument_block (hello_name ∷ [])) refl
 hello_in_space : IsSpace hello_space
 hello_in_space = begins_in_space hello_file (hello_name ∷ []) (omega (arith, hello_length)) (omega (arith, hello_length)) hello_small block_small
 
-hello_booted : (x : Contents) → file_of x.files hello_name ≡ Some hello_file → boot start_settings x (start_job hello_name) ≡ Runs (begins x hello_space hello_in_space hello_holds)
+hello_booted : (x : Readable) → file_of x.files hello_name ≡ Some hello_file → boot start_settings x (start_job hello_name) ≡ Runs (begins x hello_space hello_in_space hello_holds)
 hello_booted x there =
     let m : Mono = blank start_settings (record { turns = 0; pick = 0; random = 0 }) x in
     ap (λ (file : Option (List ℕ)). started_if m (hello_name ∷ []) file) there
-    ∙ ap (λ b. begun_from m (hello_name ∷ []) (if b then Some (plain_program hello_file) else None)) hello_plain
+    ∙ ap (λ b. begun_from m (hello_name ∷ []) (if b then Ok (plain_program hello_file) else Err Later)) hello_plain
 
 -- the program's run
-pub says_hello : (x : Contents) → file_of x.files hello_name ≡ Some hello_file → SaysHello x
+pub says_hello : (x : Readable) → file_of x.files hello_name ≡ Some hello_file → SaysHello x
 says_hello x there =
     run_says_hello x hello_space hello_in_space hello_holds (hello_booted x there)

@@ -1,6 +1,5 @@
 pub mod Fetching
 pub mod Going
-pub mod Saying
-pub mod Pages
 pub mod Hello
-pub mod Histories
+pub mod Pages
+pub mod Saying

@@ -1,41 +1,42 @@
 -- What the end of a start, and of its run, says of the outcome.
-use Rattle.std.proofs.Common.{◌≡◌, ◌⊎◌, inl, inr, ℕ, ◌+◌, ◌%◌, ◌^◌, List, [], ◌∷◌, true, length, nat_le, arith, refl, sym, ◌∙◌, ap, subst}
+use Rattle.std.proofs.Common.{◌≡◌, ◌≢◌, ◌⊎◌, ℕ, zero, suc, ◌+◌, ◌%◌, ◌^◌, ◌≤◌, List, [], ◌∷◌, true, length, nat_le, arith, refl, sym, ◌∙◌, ap, subst}
 use Rattle.std.proofs.lemmas.Bool.{and_parts, leb-true}
-use Rattle.std.specs.FinMap.{empty}
 use Rattle.std.specs.declared.option.Option.{Option}
 use Rattle.std.specs.declared.option.Option.TheVariants.{None, Some}
-use Rattle.bas_edge.specs.Files.{file_of}
+use Rattle.abi_calls.specs.declared.host.Crossing.{Crossing}
 use Rattle.abi_calls.specs.Objects.{Objects}
-use Rattle.abi_calls.specs.World.{Contents, Told}
+use Rattle.abi_calls.specs.World.{Told}
 use Rattle.abi_calls.specs.Fresh.{IsFreshWorld}
 use Rattle.abi_calls.specs.Sound.{IsSound}
+use Rattle.mono_model.specs.declared.ProgramRefusal.{ProgramRefusal}
 use Rattle.mono_model.specs.Machine.{Mono}
-use Rattle.elf_loader.specs.declared.Program.{Program}
-use Rattle.mono_model.specs.Program.{program_of}
-use Rattle.mono_model.specs.Starting.{Started, Runs, NoProgram, BadProgram, boot, blank, started_if, begun_from}
-use Rattle.mono_model.specs.Turns.{End, run_of, Ending}
+use Rattle.mono_model.specs.Readable.{Readable}
+use Rattle.mono_model.specs.Written.{nothing}
+use Rattle.mono_model.specs.Turns.{End, Ending, run_of}
+use Rattle.mono_model.specs.Starting.{Started, Runs}
+use Rattle.mono_model.specs.Starting as starting
 use Rattle.libos_state.specs.declared.state.LibOs.{LibOs}
 use Rattle.libos_state.specs.declared.state.Boot.{Boot}
 use Rattle.libos_state.specs.declared.state.Boot.TheVariants as boots
-use Rattle.libos_state.specs.declared.cont.Cont.{Cont}
-use Rattle.libos_state.specs.declared.notes.ProgramRefusal.{ProgramRefusal}
-use Rattle.libos_state.specs.Entered.{booting}
-use Rattle.libos_state.specs.Records.{base}
-use Rattle.libos_state.specs.Meaning.{meaning, meant, meant_idle}
-use Rattle.libos_state.specs.Fits.{Fits, exit_code}
-use Rattle.libos_state.proofs.Beginning.{CanBoot, boot_fits}
-use Rattle.abi_calls.specs.World.{WhereTold, world_of, whole}
-use Rattle.turn_engine.specs.Serves.{Serves, IsUp}
-use Rattle.turn_engine.specs.Halts.{Halts, HaltsRun, Fronts, StartsQuietly}
-use Rattle.turn_engine.proofs.Steps.{meaning_up}
-use Rattle.turn_engine.proofs.Starts.{going_start}
-use Rattle.turn_engine.proofs.Halting.{halts_same}
-use Rattle.turn_engine.proofs.Telling.{told_then}
+use Rattle.libos_state.specs.Records.{exit_code}
+use Rattle.libos_state.specs.Meaning.{Meaning, meant, meant_settled}
+use Rattle.libos_state.specs.Fits.{Fits, FitsBoot, FitsCont, FitsNone, FitsUp}
+use Rattle.libos_state.proofs.Booting.{CanBoot, boot_fits}
+use Rattle.turn_engine.specs.Inside.{readable, WhereReadable, IsWritten}
+use Rattle.turn_engine.specs.Moment.{Moment, moment, seen_at, machine_at, meaning_at}
+use Rattle.turn_engine.specs.Serves.{Carries, Serves, IsUp}
+use Rattle.turn_engine.specs.Halts.{ServesNoTrap, StartsQuietly}
+use Rattle.turn_engine.specs.History.{History, Broken}
+use Rattle.turn_engine.proofs.Histories.{history_none, history_then, broken_here, broken_then}
 use Rattle.bascule_top.specs.declared.outcome.Outcome.{Outcome}
-use Rattle.bascule_top.specs.declared.outcome.Outcome.TheVariants as outcomes
-use Rattle.bascule_top.specs.Commands.{TURNS, is_name, start_settings, start_job}
-use Rattle.bascule_top.specs.Runs.{EndsRun, end_by}
-use Rattle.bascule_top.specs.Outcomes.{RunsTo, IsNoProgram, StopsAt, Stops, Says}
+use Rattle.bascule_top.specs.declared.outcome.Outcome.TheVariants as outcome
+use Rattle.bascule_top.specs.declared.run.RunEnd.{RunEnd}
+use Rattle.bascule_top.specs.declared.run.RunEnd.TheVariants as run
+use Rattle.bascule_top.specs.Commands.{TURNS, is_name, start_settings}
+use Rattle.bascule_top.specs.Runs.{end_of, EndsIn, EndsRun, StopsAt, IsGivenUpAfter, BreaksRun}
+use Rattle.bascule_top.specs.Outcomes.{outcome_of, outcome_by, expected, start_of, Agrees, IsEndOf, IsAfter, StartSays, HasRun, HasConsole, LeavesObjects, IsStopped, IsGivenUp, Says, opening}
+use Rattle.bascule_top.specs.Begun.{Begun}
+use Rattle.bascule_top.specs.Histories.{Came}
 
 can_start : (name : List ℕ) → is_name name ≡ true → CanBoot name [] start_settings
 can_start name named =
@@ -48,166 +49,203 @@ can_start name named =
       acceptable = refl;
     }
 
-no_contents : Contents
-no_contents = record { files = empty; input = []; output = []; errors = [] }
-
 -- the library OS that begins fits a host that was not used
-pub start_fits : (name : List ℕ) (os : LibOs) (o : Objects) (answered : ℕ) → is_name name ≡ true → IsFreshWorld o answered → IsSound o → os ≡ booting name [] start_settings → Fits os o
-start_fits name os o answered named fresh sound is =
-    subst (λ (s : LibOs). Fits s o) (sym is) (boot_fits name [] start_settings (world_of o no_contents) answered (can_start name named) fresh sound).fits
+pub Fits-opening : (name : List ℕ) (os : LibOs) (o : Objects) (answered : ℕ) → is_name name ≡ true → IsFreshWorld o answered → IsSound o → os ≡ opening name → Fits os o
+Fits-opening name os o answered named fresh sound is =
+    subst (λ (s : LibOs). Fits s o) (sym is) (boot_fits name [] start_settings o answered (can_start name named) fresh sound)
 
--- a start that is served to its end stands for the machine's start
-pub start_means : (name : List ℕ) (os os' : LibOs) (o o' : Objects) (t t' : Told) (answered : ℕ)
-    → is_name name ≡ true → IsFreshWorld o answered → IsSound o → os ≡ booting name [] start_settings → Serves os o t os' o' t'
-    → WhereTold t t' (λ x y. meaning os' (world_of o' y) ≡ boot start_settings x (start_job name))
-start_means name os os' o o' t t' answered named fresh sound is serves = record {
-  holds = λ x e.
-      let a = serves.means.holds x e in
-      (a.0, a.1, a.2 ∙ ap (λ (s : LibOs). meaning s (world_of o x)) is ∙ (boot_fits name [] start_settings (world_of o x) answered (can_start name named) fresh sound).means);
+same_some : {A : Type 0} (x : Option A) (a b : A) → x ≡ Some a → x ≡ Some b → a ≡ b
+same_some x a b p q = cc
+
+-- ---- a start that was served to its end
+
+settled_means : (b : Moment) (x : Readable) → b.os.cont ≡ None → (meaning_at b x).0 ≡ meant_settled b.os (seen_at b x) b.os.boot
+settled_means b x settled = ap (λ cont. (meant b.os (seen_at b x) cont).0) settled
+
+begun_from : (name : List ℕ) (objects : Objects) (told : Told) (journal : Option (List Crossing)) (answered count : ℕ) (b : Moment)
+    → IsFreshWorld objects count → (let a = moment (opening name) objects told journal answered in Serves a b → StartsQuietly a b → History 0 a b → b.os.cont ≡ None → Begun name a b)
+begun_from name objects told journal answered count b fresh serves quiet history settled =
+    let a : Moment = moment (opening name) objects told journal answered in
+    let same : b.told ≡ a.told = quiet.quiet (λ some. refl) in
+    record {
+      history = history;
+      settled = settled;
+      fits = serves.fits;
+      told = same;
+      unturned = serves.turns ∙ fresh.turns;
+      means = λ x e.
+          let on = serves.means.holds x e in
+          let here : on.0 ≡ x = same_some (readable b.told) on.0 x on.1 (ap readable same ∙ e) in
+          ap (λ (m : Meaning). m.0) on.2.same ∙ ap (λ y. (meaning_at b y).0) here ∙ settled_means b x settled;
+    }
+
+-- from the library OS that was made
+pub Begun-served : (name : List ℕ) (os : LibOs) (objects : Objects) (told : Told) (journal : Option (List Crossing)) (answered count : ℕ) (b : Moment)
+    → os ≡ opening name → IsFreshWorld objects count → (let a = moment os objects told journal answered in Serves a b → StartsQuietly a b → History 0 a b → b.os.cont ≡ None
+    → Begun name (moment (opening name) objects told journal answered) b)
+Begun-served name os objects told journal answered count b is fresh serves quiet history settled =
+    let at : LibOs → Moment = λ v. moment v objects told journal answered in
+    begun_from name objects told journal answered count b fresh (subst (λ v. Serves (at v) b) is serves) (subst (λ v. StartsQuietly (at v) b) is quiet)
+    (subst (λ v. History 0 (at v) b) is history) settled
+
+boot_fits_as : (b : Moment) (boot : Boot) → b.os.cont ≡ None → b.os.boot ≡ boot → Fits b.os b.objects → FitsBoot b.os b.objects boot
+boot_fits_as b boot settled is fits = subst (FitsBoot b.os b.objects) is (subst (FitsCont b.os b.objects) settled fits)
+
+module _ (name : List ℕ) (a b : Moment) (begun : Begun name a b) where
+  -- the run has begun
+  pub IsUp-begun : b.os.boot ≡ boots.Up → IsUp b.os b.objects
+  IsUp-begun up = record { up = up; settled = begun.settled; fits = boot_fits_as b boots.Up begun.settled up begun.fits }
+
+  begins_as : (boot : Boot) → b.os.boot ≡ boot → (x : Readable) → readable a.told ≡ Some x → start_of name x ≡ meant_settled b.os (seen_at b x) boot
+  begins_as boot is x e = begun.means x e ∙ ap (meant_settled b.os (seen_at b x)) is
+
+  told_begun : (x : Readable) → readable a.told ≡ Some x → readable b.told ≡ Some x
+  told_begun x e = ap readable begun.told ∙ e
+
+  -- there is no program to run
+  none_says : (result : Outcome) (start : Started) → ((x : Readable) → readable a.told ≡ Some x → start_of name x ≡ start) → result ≡ expected name start
+      → ((x : Readable) → IsAfter start b.objects a.told b.told x) → WhereReadable a.told b.told (StartSays result name b.objects a.told b.told)
+  none_says result start begins is after = record {
+    holds = λ x e. (
+      x,
+      told_begun x e,
+      record {
+        outcome_is = is ∙ ap (expected name) (sym (begins x e));
+        after = subst (λ s. IsAfter s b.objects a.told b.told x) (sym (begins x e)) (after x);
+      },
+    );
+  }
+
+  console : (boot : Boot) → FitsNone b.os b.objects → HasConsole b.objects
+  console boot fits = record { records = b.os; fit = fits; unturned = begun.unturned }
+
+  pub Says-no_program : (result : Outcome) → result ≡ outcome.NoProgram name → b.os.boot ≡ boots.NoProgram → Says result name a.told b.objects b.told
+  Says-no_program result is none = record {
+    objects = subst (λ r. LeavesObjects r b.objects) (sym is) (console boots.NoProgram (boot_fits_as b boots.NoProgram begun.settled none begun.fits));
+    contents = none_says result starting.NoProgram (begins_as boots.NoProgram none) is (λ x. begun.told);
+  }
+
+  pub Says-bad_program : (cause : ProgramRefusal) → b.os.boot ≡ boots.BadProgram cause → Says (outcome.BadProgram cause) name a.told b.objects b.told
+  Says-bad_program cause bad = record {
+    objects = console (boots.BadProgram cause) (boot_fits_as b (boots.BadProgram cause) begun.settled bad begun.fits);
+    contents = none_says (outcome.BadProgram cause) (starting.BadProgram cause) (begins_as (boots.BadProgram cause) bad) refl (λ x. begun.told);
+  }
+
+  -- ---- a run
+
+  -- the outcome of a run that ends so
+  abbrev pub of_run : RunEnd → Outcome
+  of_run (run.Exited code) = outcome.Exited code
+  of_run run.Bound = outcome.Bound TURNS
+  of_run (run.Stuck turns) = outcome.Stuck turns
+
+  turns_after : (d : Moment) (made : ℕ) → made ≤ TURNS → d.objects.positions.turns ≡ (b.objects.positions.turns + made) % 2 ^ 64 → d.objects.positions.turns ≡ made
+  turns_after d made within is = let none = begun.unturned in omega arith
+
+  expected_is : (end : RunEnd) (d : Moment) (ends : EndsRun TURNS end b d) → of_run end ≡ outcome_by (end_of end) d.objects.positions.turns
+  expected_is (run.Exited code) d ends = refl
+  expected_is run.Bound d ends = ap outcome.Bound (sym (turns_after d ends.made ends.within ends.turns ∙ ends.stops.1))
+  expected_is (run.Stuck turns) d ends = ap outcome.Stuck (sym (turns_after d ends.made ends.within ends.turns ∙ ends.stops.1))
+
+  leaves : (end : RunEnd) (d : Moment) (ends : EndsRun TURNS end b d) → LeavesObjects (of_run end) d.objects
+  leaves (run.Exited code) d ends = record { records = d.os; fit = ends.up; exit = ends.stops }
+  leaves run.Bound d ends =
+      (record { records = d.os; fit = ends.up; exit = ends.stops.0 }, refl, turns_after d ends.made ends.within ends.turns ∙ ends.stops.1)
+  leaves (run.Stuck turns) d ends =
+      (record { records = d.os; fit = ends.up; exit = ends.stops.0 }, sym (turns_after d ends.made ends.within ends.turns ∙ ends.stops.1), ends.stops.2)
+
+  run_says : (end : RunEnd) (d : Moment) (ends : EndsRun TURNS end b d) (x y : Readable) → start_of name x ≡ Runs (machine_at b x) → EndsIn TURNS (end_of end) b d x y
+      → StartSays (of_run end) name d.objects a.told d.told x y
+  run_says end d ends x y begins is = record {
+    outcome_is = expected_is end d ends
+        ∙ (λ i. outcome_by (sym is.ends i) (sym (ap (λ (m : Mono). m.positions.turns) is.last) i))
+        ∙ ap (expected name) (sym begins);
+    after = subst (λ s. IsAfter s d.objects a.told d.told y) (sym begins) (record {
+      agrees = record { records = d.os; fit = ends.up; same = sym is.last };
+      written = subst (λ t. IsWritten t d.told (run_of TURNS (machine_at b x)).written) begun.told is.written;
+    });
+  }
+
+  says_run : (end : RunEnd) (d : Moment) → b.os.boot ≡ boots.Up → EndsRun TURNS end b d → Says (of_run end) name a.told d.objects d.told
+  says_run end d up ends = record {
+    objects = leaves end d ends;
+    contents = record {
+      holds = λ x e.
+          let on = ends.means.holds x (told_begun x e) in
+          (on.0, on.1, run_says end d ends x on.0 (begins_as boots.Up up x e) on.2);
+    };
+  }
+
+  pub Says-run : (given end : RunEnd) (d : Moment) → given ≡ end → b.os.boot ≡ boots.Up → EndsRun TURNS given b d → Says (of_run end) name a.told d.objects d.told
+  Says-run given end d is up ends = says_run end d up (subst (λ e. EndsRun TURNS e b d) is ends)
+
+  -- ---- histories
+
+  pub Came-no_program : (result : Outcome) → result ≡ outcome.NoProgram name → b.os.boot ≡ boots.NoProgram → Came result a b.objects b.told b.journal b.answered
+  Came-no_program result is none =
+      subst (λ r. Came r a b.objects b.told b.journal b.answered) (sym is)
+      (record { os = b.os; turns = 0; history = begun.history; settled = begun.settled; ends = (none, refl) })
+
+  pub Came-bad_program : (cause : ProgramRefusal) → b.os.boot ≡ boots.BadProgram cause → Came (outcome.BadProgram cause) a b.objects b.told b.journal b.answered
+  Came-bad_program cause bad = record { os = b.os; turns = 0; history = begun.history; settled = begun.settled; ends = (bad, refl) }
+
+  history_of : (end : RunEnd) (d : Moment) (ends : EndsRun TURNS end b d) → History ends.made a d
+  history_of end d ends = subst (λ n. History n a d) (omega arith) (history_then 0 ends.made a b d begun.history ends.history)
+
+  came_by : (end : RunEnd) (d : Moment) (ends : EndsRun TURNS end b d) → Came (of_run end) a d.objects d.told d.journal d.answered
+  came_by (run.Exited code) d ends =
+      record { os = d.os; turns = ends.made; history = history_of (run.Exited code) d ends; settled = ends.up.settled; ends = (ends.stops, ends.within) }
+  came_by run.Bound d ends =
+      record { os = d.os; turns = ends.made; history = history_of run.Bound d ends; settled = ends.up.settled; ends = ends.stops }
+  came_by (run.Stuck turns) d ends =
+      record { os = d.os; turns = ends.made; history = history_of (run.Stuck turns) d ends; settled = ends.up.settled; ends = (ends.stops.0, ends.stops.1) }
+
+  pub Came-run : (given end : RunEnd) (d : Moment) → given ≡ end → EndsRun TURNS given b d → Came (of_run end) a d.objects d.told d.journal d.answered
+  Came-run given end d is ends = came_by end d (subst (λ e. EndsRun TURNS e b d) is ends)
+
+  -- ---- given up
+
+  -- behind the start
+  pub IsGivenUp-begun : IsGivenUp name a b.told b.journal b.answered
+  IsGivenUp-begun = record {
+    turns = 0;
+    within = omega arith;
+    broken = broken_here 0 a b begun.history;
+    means = record { holds = λ x e. (x, told_begun x e, begun.told) };
+  }
+
+  -- in its run
+  pub IsGivenUp-run : (t : Told) (journal : Option (List Crossing)) (answered : ℕ) → b.os.boot ≡ boots.Up → BreaksRun TURNS b t journal answered → IsGivenUp name a t journal answered
+  IsGivenUp-run t journal answered up breaks = record {
+    turns = suc breaks.before;
+    within = breaks.within;
+    broken = subst (λ n. Broken n a t journal answered) (omega arith) (broken_then 0 (suc breaks.before) a b t journal answered begun.history breaks.broken);
+    means = record {
+      holds = λ x e.
+          let on = breaks.means.holds x (told_begun x e) in (
+            on.0,
+            on.1,
+            subst (λ s. IsStopped s (suc breaks.before) a.told t on.0) (sym (begins_as boots.Up up x e))
+                (subst (λ v. IsGivenUpAfter breaks.before (machine_at b x) v t on.0) begun.told on.2),
+          );
+    };
+  }
+
+-- before and while the start is served nothing that is told has changed
+pub IsGivenUp-start : (name : List ℕ) (a : Moment) (t : Told) (journal : Option (List Crossing)) (answered : ℕ) → t ≡ a.told → Broken 0 a t journal answered → IsGivenUp name a t journal answered
+IsGivenUp-start name a t journal answered same broken = record {
+  turns = 0;
+  within = omega arith;
+  broken = broken;
+  means = record { holds = λ x e. (x, ap readable same ∙ e, same) };
 }
 
-runs_same : (m n : Mono) → Runs m ≡ Runs n → m ≡ n
-runs_same m n e = cc
+-- from the library OS that was made
+pub IsGivenUp-boot : (name : List ℕ) (os : LibOs) (objects : Objects) (told : Told) (journal : Option (List Crossing)) (answered : ℕ) (t : Told) (j : Option (List Crossing)) (n : ℕ)
+    → os ≡ opening name → (ServesNoTrap os → t ≡ told) → Broken 0 (moment os objects told journal answered) t j n → IsGivenUp name (moment (opening name) objects told journal answered) t j n
+IsGivenUp-boot name os objects told journal answered t j n is unchanged broken =
+    IsGivenUp-start name (moment (opening name) objects told journal answered) t j n (subst (λ v. ServesNoTrap v → t ≡ told) is unchanged (λ some. refl))
+    (subst (λ v. Broken 0 (moment v objects told journal answered) t j n) is broken)
 
--- the run's last state is the world's
-pub run_says : (name : List ℕ) (end : End) (os' os'' : LibOs) (o' o'' : Objects) (t t' t'' : Told)
-    → WhereTold t t' (λ x y. meaning os' (world_of o' y) ≡ boot start_settings x (start_job name)) → IsUp os' o'
-    → EndsRun TURNS os' o' t' os'' o'' t'' → end_by (exit_code os'') ≡ end → WhereTold t t'' (RunsTo name end o'')
-run_says name end os' os'' o' o'' t t' t'' start up run is = record {
-  holds = λ x e.
-      let a = start.holds x e in
-      let b = run.means.holds a.0 a.1 in
-      let booted : boot start_settings x (start_job name) ≡ Runs (base os' (world_of o' a.0)) = sym a.2 ∙ meaning_up os' o' (world_of o' a.0) up in
-      let last : base os'' (world_of o'' b.0) ≡ (run_of TURNS (base os' (world_of o' a.0))).last = sym (ap (λ (r : Ending). r.last) b.2) in (
-        b.0,
-        b.1,
-        record {
-          machine = base os' (world_of o' a.0);
-          booted = booted;
-          ends = ap (λ (r : Ending). r.end) b.2 ∙ is;
-          agrees = record { records = os''; fit = run.up; same = last };
-          files = ap (λ (m : Mono). m.files) last;
-          input = ap (λ (m : Mono). m.input) last;
-          output = ap (λ (m : Mono). m.output) last;
-          errors = ap (λ (m : Mono). m.errors) last;
-        },
-      );
-}
-
-no_file : (m : Mono) (args : List (List ℕ)) (file : Option (List ℕ)) → started_if m args file ≡ NoProgram → file ≡ None
-no_file m args None e = refl
-no_file m args (Some file) e = absurd (not_missing (program_of file) e)
-  where
-    not_missing : (p : Option Program) → begun_from m args p ≡ NoProgram → ⊥
-    not_missing None q = cc
-    not_missing (Some p) q = cc
-
-bad_file : (name : List ℕ) (x : Contents) (m : Mono) (args : List (List ℕ)) (file : Option (List ℕ)) → file_of x.files name ≡ file → started_if m args file ≡ BadProgram → IsNoProgram name x
-bad_file name x m args None is e = absurd (cc)
-bad_file name x m args (Some file) is e = record { file = file; there = is; refused = not_runs (program_of file) e }
-  where
-    not_runs : (p : Option Program) → begun_from m args p ≡ BadProgram → p ≡ None
-    not_runs None q = refl
-    not_runs (Some p) q = absurd (cc)
-
-meant_none : (os : LibOs) (w : _) (cont : Option Cont) (b : Boot) → cont ≡ None → os.boot ≡ b → meant os w cont ≡ meant_idle os w b
-meant_none os w None b none is = ap (meant_idle os w) is
-meant_none os w (Some c) b none is = absurd (cc)
-
-same_contents : (whole : Option Contents) (x y z : Contents) → whole ≡ Some y → whole ≡ Some z → z ≡ x → y ≡ x
-same_contents whole x y z p q same = cc
-
--- a start changes no contents
-pub start_quiet : (name : List ℕ) (os os' : LibOs) (t t' : Told)
-    → os ≡ booting name [] start_settings → StartsQuietly os t os' t' → WhereTold t t' (λ x y. y ≡ x)
-start_quiet name os os' t t' is quiet = quiet.quiet (going_start os (ap (λ (s : LibOs). s.boot) is))
-
--- there is no file of the name
-pub none_says : (name : List ℕ) (os' : LibOs) (o' : Objects) (t t' : Told)
-    → WhereTold t t' (λ x y. meaning os' (world_of o' y) ≡ boot start_settings x (start_job name)) → os'.cont ≡ None → os'.boot ≡ boots.NoProgram
-    → WhereTold t t' (λ x y. y ≡ x) → WhereTold t t' (λ x y. (file_of x.files name ≡ None) × (y ≡ x))
-none_says name os' o' t t' start none is quiet = record {
-  holds = λ x e.
-      let a = start.holds x e in
-      let q = quiet.holds x e in (
-        a.0,
-        a.1,
-        (
-          no_file (blank start_settings (record { turns = 0; pick = 0; random = 0 }) x) (name ∷ []) (file_of x.files name) (sym a.2 ∙ meant_none os' (world_of o' a.0) os'.cont boots.NoProgram none is),
-          same_contents (whole t') x a.0 q.0 a.1 q.1 q.2,
-        ),
-      );
-}
-
--- the outcome names the program that there isn't
-pub no_program_says : (outcome : Outcome) (name : List ℕ) (os' : LibOs) (o' : Objects) (t t' : Told)
-    → WhereTold t t' (λ x y. meaning os' (world_of o' y) ≡ boot start_settings x (start_job name)) → os'.cont ≡ None → os'.boot ≡ boots.NoProgram
-    → WhereTold t t' (λ x y. y ≡ x) → outcome ≡ outcomes.NoProgram name → Says outcome name t o' t'
-no_program_says outcome name os' o' t t' start none is quiet named =
-    subst (λ (u : Outcome). Says u name t o' t') (sym named) (refl, none_says name os' o' t t' start none is quiet)
-
--- a run that isn't over has made all its turns
-pub bound_turns : (o o' o'' : Objects) (answered : ℕ) → IsFreshWorld o answered → o'.positions.turns ≡ o.positions.turns
-    → o''.positions.turns ≡ (o'.positions.turns + TURNS) % 2 ^ 64 → o''.positions.turns ≡ TURNS
-bound_turns o o' o'' answered fresh same after = after ∙ ap (λ n. (n + TURNS) % 2 ^ 64) (same ∙ fresh.turns)
-
--- the file is no program
-pub bad_says : (name : List ℕ) (os' : LibOs) (o' : Objects) (t t' : Told) (cause : ProgramRefusal)
-    → WhereTold t t' (λ x y. meaning os' (world_of o' y) ≡ boot start_settings x (start_job name)) → os'.cont ≡ None → os'.boot ≡ boots.BadProgram cause
-    → WhereTold t t' (λ x y. y ≡ x) → WhereTold t t' (λ x y. IsNoProgram name x × (y ≡ x))
-bad_says name os' o' t t' cause start none is quiet = record {
-  holds = λ x e.
-      let a = start.holds x e in
-      let q = quiet.holds x e in (
-        a.0,
-        a.1,
-        (
-          bad_file name x (blank start_settings (record { turns = 0; pick = 0; random = 0 }) x) (name ∷ []) (file_of x.files name) refl (sym a.2 ∙ meant_none os' (world_of o' a.0) os'.cont (boots.BadProgram cause) none is),
-          same_contents (whole t') x a.0 q.0 a.1 q.1 q.2,
-        ),
-      );
-}
-
--- ---- a start that is given up
-
--- a start leaves the files
-begun_files : (m m' : Mono) (args : List (List ℕ)) (p : Option Program) → begun_from m args p ≡ Runs m' → m'.files ≡ m.files
-begun_files m m' args None is = absurd (cc)
-begun_files m m' args (Some p) is = sym (ap (λ (u : Mono). u.files) (runs_same _ m' is))
-
-started_files : (m m' : Mono) (args : List (List ℕ)) (file : Option (List ℕ)) → started_if m args file ≡ Runs m' → m'.files ≡ m.files
-started_files m m' args None is = absurd (cc)
-started_files m m' args (Some file) is = begun_files m m' args (program_of file) is
-
-fronts_stops : (name : List ℕ) (x y : Contents) (s : Started) → boot start_settings x (start_job name) ≡ s → Fronts s x y → StopsAt s x y
-fronts_stops name x y (Runs m) is f =
-    let same : m.files ≡ x.files = started_files (blank start_settings (record { turns = 0; pick = 0; random = 0 }) x) m (name ∷ []) (file_of x.files name) is in
-    record { turns = 0; within = omega arith; output = f.output; errors = f.errors; files = files_at_first x.files y.files m.files same f.files }
-  where
-    files_at_first : {X : Type 0} (x y m : X) → m ≡ x → (y ≡ x) ⊎ (y ≡ m) → (y ≡ m) ⊎ (y ≡ m)
-    files_at_first x y m same (inl p) = inl (p ∙ sym same)
-    files_at_first x y m same (inr p) = inr p
-fronts_stops name x y NoProgram is f = f
-fronts_stops name x y BadProgram is f = f
-
--- while it is served
-pub halts_start : (name : List ℕ) (os : LibOs) (o : Objects) (t t' : Told) (answered : ℕ)
-    → is_name name ≡ true → IsFreshWorld o answered → IsSound o → os ≡ booting name [] start_settings → Halts os o t t' → Stops name t t'
-halts_start name os o t t' answered named fresh sound is halts = record {
-  holds = λ x e.
-      let a = halts.halts.holds x e in
-      let begins : meaning os (world_of o x) ≡ boot start_settings x (start_job name) = ap (λ (s : LibOs). meaning s (world_of o x)) is ∙ (boot_fits name [] start_settings (world_of o x) answered (can_start name named) fresh sound).means in
-      (a.0, a.1, fronts_stops name x a.0 (boot start_settings x (start_job name)) refl (subst (λ s. Fronts s x a.0) begins a.2));
-}
-
--- before it begins
-pub stops_first : (name : List ℕ) (o : Objects) (t : Told) (answered : ℕ) → is_name name ≡ true → IsFreshWorld o answered → IsSound o → Stops name t t
-stops_first name o t answered named fresh sound =
-    halts_start name (booting name [] start_settings) o t t answered named fresh sound refl (halts_same (booting name [] start_settings) o t)
-
--- in its run
-pub halts_going : (name : List ℕ) (os' : LibOs) (o' : Objects) (t t' t'' : Told)
-    → WhereTold t t' (λ x y. meaning os' (world_of o' y) ≡ boot start_settings x (start_job name)) → IsUp os' o' → HaltsRun TURNS os' o' t' t'' → Stops name t t''
-halts_going name os' o' t t' t'' start up halts =
-    told_then t t' t'' _ _ (λ x z. StopsAt (boot start_settings x (start_job name)) x z)
-    (λ x y z p q. subst (λ s. StopsAt s x z) (sym (meaning_up os' o' (world_of o' y) up) ∙ p) q) start halts.halts
+pub IsGivenUp-first : (name : List ℕ) (a : Moment) → IsGivenUp name a a.told a.journal a.answered
+IsGivenUp-first name a = IsGivenUp-start name a a.told a.journal a.answered refl (broken_here 0 a a (history_none a))

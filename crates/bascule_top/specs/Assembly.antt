@@ -45,12 +45,7 @@ SaysOfAssembly (Large name) text file told told' = (name ≡ text) × (told' ≡
 SaysOfAssembly (BadText line cause) text file told told' = (told' ≡ told) × ForSome told (λ files. StandsFor text files (Err (Line line cause)))
 SaysOfAssembly ShelfFault text file told told' = told' ≡ told
 SaysOfAssembly OutOfMemory text file told told' = told' ≡ told
-SaysOfAssembly (Exited code) text file told told' = ⊥
-SaysOfAssembly (Bound turns) text file told told' = ⊥
-SaysOfAssembly (NoProgram name) text file told told' = ⊥
-SaysOfAssembly (BadProgram cause) text file told told' = ⊥
-SaysOfAssembly BadWords text file told told' = ⊥
-SaysOfAssembly HostFault text file told told' = ⊥
+SaysOfAssembly _ text file told told' = ⊥
 
 -- `asm` says what its outcome says, and no other words change a file of the user's.
 abbrev pub Assembly : Outcome → Option Command → Option Files → Option Files → Type 0

@@ -34,16 +34,14 @@ command_of (word ∷ text ∷ file ∷ more ∷ rest) = None
 command_of (word ∷ []) = None
 command_of [] = None
 
--- The command uses no host, and it uses no file of the user's.
-abbrev pub UsesNoHost : Option Command → Type 0
-UsesNoHost None = Unit {0}
-UsesNoHost (Some (Start name)) = ⊥
-UsesNoHost (Some (Asm text file)) = Unit {0}
+-- The commands that use the host, and those that use the user's files.
+abbrev pub UsesHost : Option Command → Type 0
+UsesHost (Some (Start name)) = Unit {0}
+UsesHost _ = ⊥
 
-abbrev pub UsesNoShelf : Option Command → Type 0
-UsesNoShelf None = Unit {0}
-UsesNoShelf (Some (Start name)) = Unit {0}
-UsesNoShelf (Some (Asm text file)) = ⊥
+abbrev pub UsesShelf : Option Command → Type 0
+UsesShelf (Some (Asm text file)) = Unit {0}
+UsesShelf _ = ⊥
 
 abbrev pub words_of : {A : Type 0} → List (String A) → List (List ℕ)
 words_of words = map string_bytes words

@@ -1,7 +1,7 @@
 -- A run worked out: the program /bin/hi, which writes hi and a line feed and exits with 0.
 use Rattle.std.specs.Prelude.{◌≡◌, List, ℕ, [], ◌∷◌, ◌++◌, codes}
-use Rattle.abi_calls.specs.World.{Contents}
 use Rattle.mono_model.specs.Machine.{Mono}
+use Rattle.mono_model.specs.Readable.{Readable}
 use Rattle.mono_model.specs.Starting.{Runs, boot}
 use Rattle.mono_model.specs.Turns.{Exited, run_of}
 use Rattle.bascule_top.specs.Commands.{TURNS, start_settings, start_job}
@@ -28,14 +28,15 @@ hello_file =
 abbrev pub hello_text : List ℕ
 hello_text = codes "hi" ++ 10 ∷ []
 
--- Over these contents the program starts, and its run ends with exit code 0 after 2 turns. The text was written to the
--- output; the errors, the input and the files are as they were.
-pub record SaysHello (x : Contents) : Type 0 where
+-- Over these files and this input the program starts, and its run ends with exit code 0 after 2
+-- turns. It wrote the text to the output and nothing to the errors; the input and the files are as
+-- they were.
+pub record SaysHello (x : Readable) : Type 0 where
   pub machine : Mono
   pub booted : boot start_settings x (start_job hello_name) ≡ Runs machine
   pub ends : (run_of TURNS machine).end ≡ Exited 0
   pub turns : (run_of TURNS machine).last.positions.turns ≡ 2
-  pub output : (run_of TURNS machine).last.output ≡ x.output ++ hello_text
-  pub errors : (run_of TURNS machine).last.errors ≡ x.errors
+  pub output : (run_of TURNS machine).written.output ≡ hello_text
+  pub errors : (run_of TURNS machine).written.errors ≡ []
   pub input : (run_of TURNS machine).last.input ≡ x.input
   pub files : (run_of TURNS machine).last.files ≡ x.files

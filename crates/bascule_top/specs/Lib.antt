@@ -2,7 +2,8 @@ pub mod Commands
 pub mod Words
 pub mod Runs
 pub mod Outcomes
+pub mod Begun
+pub mod Histories
 pub mod Assembly
 pub mod Status
 pub mod Hello
-pub mod Histories

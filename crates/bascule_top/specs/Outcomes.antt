@@ -1,91 +1,148 @@
--- What each outcome of a command says; where contents are told, every line excludes the others.
-use Rattle.std.specs.Prelude.{◌≡◌, ℕ, List}
+-- What each outcome of a start says.
+use Rattle.std.specs.Prelude.{◌≡◌, ◌≢◌, ◌⊎◌, ℕ, zero, suc, ◌≤◌, List, []}
 use Rattle.std.specs.declared.option.Option.{Option}
 use Rattle.std.specs.declared.option.Option.TheVariants.{None, Some}
-use Rattle.bas_edge.specs.Files.{file_of}
+use Rattle.abi_calls.specs.declared.host.Crossing.{Crossing}
+use Rattle.abi_calls.specs.declared.threads.Turned.TheVariants as world
 use Rattle.abi_calls.specs.Objects.{Objects}
-use Rattle.abi_calls.specs.World.{Contents, Told}
+use Rattle.abi_calls.specs.World.{Told}
+use Rattle.abi_calls.specs.Turn.{world_turn}
 use Rattle.mono_model.specs.Machine.{Mono}
-use Rattle.mono_model.specs.Program.{program_of}
+use Rattle.mono_model.specs.Readable.{Readable}
+use Rattle.mono_model.specs.Written.{nothing}
+use Rattle.mono_model.specs.Turns.{Ending, Exited, Bound, Stuck, run_of}
+use Rattle.mono_model.specs.Turns as mono
 use Rattle.mono_model.specs.Starting.{Started, Runs, boot}
 use Rattle.mono_model.specs.Starting as starting
-use Rattle.mono_model.specs.Turns as mono
-use Rattle.mono_model.specs.Turns.{End, run_of}
+use Rattle.libos_state.specs.declared.state.Boot.TheVariants as boots
 use Rattle.libos_state.specs.declared.state.LibOs.{LibOs}
-use Rattle.libos_state.specs.Records.{base}
-use Rattle.abi_calls.specs.World.{WhereTold, world_of}
+use Rattle.libos_state.specs.Entered.{booting}
+use Rattle.libos_state.specs.Records.{base, exit_code}
+use Rattle.libos_state.specs.Fits.{FitsNone}
+use Rattle.turn_engine.specs.Inside.{WhereReadable, IsWritten}
+use Rattle.turn_engine.specs.Moment.{Moment, moment}
 use Rattle.turn_engine.specs.Serves.{IsUp}
-use Rattle.turn_engine.specs.Halts.{IsUnwritten, FrontsRun}
+use Rattle.turn_engine.specs.History.{History, Broken}
 use Rattle.bascule_top.specs.declared.outcome.Outcome.{Outcome}
-use Rattle.bascule_top.specs.declared.outcome.Outcome.TheVariants.{Exited, Done, Bound, NoProgram, BadProgram, BadWords, NoFile, Large, BadText, HostFault, ShelfFault, OutOfMemory}
+use Rattle.bascule_top.specs.declared.outcome.Outcome.TheVariants as outcome
+use Rattle.bascule_top.specs.declared.outcome.Outcome.TheVariants.{BadWords, HostFault, OutOfMemory}
 use Rattle.bascule_top.specs.Commands.{Command, Start, Asm, TURNS, start_settings, start_job}
+use Rattle.bascule_top.specs.Runs.{IsGivenUpAfter}
 
--- A world agrees with the machine where some records, which fit its objects, name that machine in it: its processes,
--- threads, open descriptions, ready threads and positions, and its files, input, output and errors.
-pub record Agrees (o : Objects) (y : Contents) (m : Mono) : Type 0 where
+-- ---- what the machine says
+
+-- The outcome of a run: with its code, or after how many turns it ended.
+abbrev pub outcome_by : mono.End → ℕ → Outcome
+outcome_by (Exited code) turns = outcome.Exited code
+outcome_by Bound turns = outcome.Bound turns
+outcome_by Stuck turns = outcome.Stuck turns
+
+abbrev pub outcome_of : Ending → Outcome
+outcome_of ending = outcome_by ending.end ending.last.positions.turns
+
+-- The outcome that is expected of what a start begins with.
+abbrev pub expected : List ℕ → Started → Outcome
+expected name (Runs m) = outcome_of (run_of TURNS m)
+expected name starting.NoProgram = outcome.NoProgram name
+expected name (starting.BadProgram cause) = outcome.BadProgram cause
+
+-- What the start of the program of this name begins with.
+abbrev pub start_of : List ℕ → Readable → Started
+start_of name x = boot start_settings x (start_job name)
+
+-- Objects, files and input agree with the machine where some records, which fit the objects, name
+-- that machine in them.
+pub record Agrees (o : Objects) (y : Readable) (m : Mono) : Type 0 where
   pub records : LibOs
   pub fit : IsUp records o
-  pub same : base records (world_of o y) ≡ m
+  pub same : base records (record { objects = o; contents = y }) ≡ m
 
--- The program's start over these contents is a machine whose run of so many turns ends so, and the contents and the
--- world after are those of its last state.
-pub record RunsTo (name : List ℕ) (end : End) (o : Objects) (x y : Contents) : Type 0 where
-  pub machine : Mono
-  pub booted : boot start_settings x (start_job name) ≡ Runs machine
-  pub ends : (run_of TURNS machine).end ≡ end
-  pub agrees : Agrees o y (run_of TURNS machine).last
-  pub files : y.files ≡ (run_of TURNS machine).last.files
-  pub input : y.input ≡ (run_of TURNS machine).last.input
-  pub output : y.output ≡ (run_of TURNS machine).last.output
-  pub errors : y.errors ≡ (run_of TURNS machine).last.errors
+-- All is as at the end of a run: what stood there comes first, and then what the run wrote.
+pub record IsEndOf (ending : Ending) (o' : Objects) (told told' : Told) (y : Readable)
+    : Type 0 where
+  pub agrees : Agrees o' y ending.last
+  pub written : IsWritten told told' ending.written
 
--- There is a file of the name, and it is no program.
-pub record IsNoProgram (name : List ℕ) (x : Contents) : Type 0 where
-  pub file : List ℕ
-  pub there : file_of x.files name ≡ Some file
-  pub refused : program_of file ≡ None
+-- Without a run nothing that is told has changed.
+abbrev pub IsAfter : Started → Objects → Told → Told → Readable → Type 0
+IsAfter (Runs m) o' told told' y = IsEndOf (run_of TURNS m) o' told told' y
+IsAfter _ o' told told' y = told' ≡ told
 
--- A start is given up at y: where a program runs, on the way to the machine after some number of turns, else as at x.
-abbrev pub StopsAt : Started → Contents → Contents → Type 0
-StopsAt (Runs m) x y = FrontsRun TURNS m y
-StopsAt starting.NoProgram x y = IsUnwritten x y
-StopsAt starting.BadProgram x y = IsUnwritten x y
+-- From the files and the input at the beginning comes the outcome, and what stands after.
+pub record StartSays (outcome : Outcome) (name : List ℕ) (o' : Objects) (told told' : Told)
+    (x y : Readable) : Type 0 where
+  pub outcome_is : outcome ≡ expected name (start_of name x)
+  pub after : IsAfter (start_of name x) o' told told' y
 
-abbrev pub Stops : List ℕ → Told → Told → Type 0
-Stops name told told' = WhereTold told told' (λ x y. StopsAt (boot start_settings x (start_job name)) x y)
+-- ---- what the objects say, which are always told
 
-abbrev pub Says : Outcome → List ℕ → Told → Objects → Told → Type 0
-Says (Exited code) name told o' told' = WhereTold told told' (RunsTo name (mono.Exited code) o')
-Says (Bound turns) name told o' told' = (turns ≡ TURNS) × (o'.positions.turns ≡ TURNS) × WhereTold told told' (RunsTo name mono.Bound o')
-Says (NoProgram named) name told o' told' = (named ≡ name) × WhereTold told told' (λ x y. (file_of x.files name ≡ None) × (y ≡ x))
-Says (BadProgram cause) name told o' told' = WhereTold told told' (λ x y. IsNoProgram name x × (y ≡ x))
-Says (Done report) name told o' told' = ⊥
-Says BadWords name told o' told' = ⊥
-Says (NoFile named) name told o' told' = ⊥
-Says (Large named) name told o' told' = ⊥
-Says (BadText line cause) name told o' told' = ⊥
-Says ShelfFault name told o' told' = ⊥
-Says HostFault name told o' told' = Stops name told told'
-Says OutOfMemory name told o' told' = Stops name told told'
+-- The run has begun, and process 1 has this code.
+pub record HasRun (o' : Objects) (code : Option ℕ) : Type 0 where
+  pub records : LibOs
+  pub fit : IsUp records o'
+  pub exit : exit_code records ≡ code
 
--- The outcomes that a run gives: no fault and no want of memory.
-abbrev pub IsOfRun : Outcome → Type 0
-IsOfRun (Exited code) = Unit {0}
-IsOfRun (Bound turns) = Unit {0}
-IsOfRun (NoProgram named) = Unit {0}
-IsOfRun (BadProgram cause) = Unit {0}
-IsOfRun (Done report) = Unit {0}
-IsOfRun BadWords = Unit {0}
-IsOfRun (NoFile named) = Unit {0}
-IsOfRun (Large named) = Unit {0}
-IsOfRun (BadText line cause) = Unit {0}
-IsOfRun ShelfFault = Unit {0}
-IsOfRun HostFault = ⊥
-IsOfRun OutOfMemory = ⊥
+-- The ends of the console are open, and there is nothing else; no turn was made.
+pub record HasConsole (o' : Objects) : Type 0 where
+  pub records : LibOs
+  pub fit : FitsNone records o'
+  pub unturned : o'.positions.turns ≡ 0
 
--- Words that are no command are refused, and nothing is done; a start says what its outcome says; `asm` doesn't use the
--- host.
-abbrev pub Headline : Outcome → Option Command → Objects → Told → Objects → Told → Type 0
-Headline outcome None o told o' told' = (outcome ≡ BadWords) × (o' ≡ o) × (told' ≡ told)
-Headline outcome (Some (Start name)) o told o' told' = Says outcome name told o' told'
-Headline outcome (Some (Asm text file)) o told o' told' = (o' ≡ o) × (told' ≡ told)
+abbrev pub LeavesObjects : Outcome → Objects → Type 0
+LeavesObjects (outcome.Exited code) o' = HasRun o' (Some code)
+LeavesObjects (outcome.Bound turns) o' =
+    HasRun o' None × (turns ≡ TURNS) × (o'.positions.turns ≡ TURNS)
+LeavesObjects (outcome.Stuck turns) o' =
+    HasRun o' None × (turns ≡ o'.positions.turns) × ((world_turn o').0 ≡ world.Stuck)
+LeavesObjects (outcome.NoProgram name) o' = HasConsole o'
+LeavesObjects (outcome.BadProgram cause) o' = HasConsole o'
+LeavesObjects _ o' = ⊥
+
+-- ---- a start that is given up
+
+-- At a start nothing is written; a run is given up in its last turn.
+abbrev pub IsStopped : Started → ℕ → Told → Told → Readable → Type 0
+IsStopped begun zero told told' y = told' ≡ told
+IsStopped (Runs m) (suc before) told told' y = IsGivenUpAfter before m told told' y
+IsStopped _ (suc before) told told' y = ⊥
+
+-- For want of memory or as the outside failed a start was given up after these turns and calls; the
+-- last turn was made, but not served to its end.
+pub record IsGivenUp (name : List ℕ) (a : Moment) (told' : Told)
+    (journal' : Option (List Crossing)) (answered' : ℕ) : Type 0 where
+  pub turns : ℕ
+  pub within : turns ≤ TURNS
+  pub broken : Broken turns a told' journal' answered'
+  pub means : WhereReadable a.told told' (λ x y. IsStopped (start_of name x) turns a.told told' y)
+
+-- ---- the headline
+
+-- The outcome of a start is the expected one, and objects and contents are those of the run's last
+-- state.
+pub record Says (outcome : Outcome) (name : List ℕ) (told : Told) (o' : Objects) (told' : Told)
+    : Type 0 where
+  pub objects : LeavesObjects outcome o'
+  pub contents : WhereReadable told told' (StartSays outcome name o' told told')
+
+-- The library OS that opens the program of this name.
+abbrev pub opening : List ℕ → LibOs
+opening name = booting name [] start_settings
+
+abbrev pub StartEnds : Outcome → List ℕ → Moment → Objects → Told → Option (List Crossing) → ℕ
+    → Type 0
+StartEnds HostFault name a o' told' journal' answered' =
+    IsGivenUp name a told' journal' answered'
+StartEnds OutOfMemory name a o' told' journal' answered' =
+    IsGivenUp name a told' journal' answered'
+StartEnds outcome name a o' told' journal' answered' = Says outcome name a.told o' told'
+
+-- Words that are no command are refused; the other commands don't use the host.
+abbrev pub Headline : Outcome → Option Command → Objects → Told → Option (List Crossing) → ℕ
+    → Objects → Told → Option (List Crossing) → ℕ → Type 0
+Headline outcome None o told journal answered o' told' journal' answered' =
+    outcome ≡ BadWords
+Headline outcome (Some (Start name)) o told journal answered o' told' journal' answered' =
+    StartEnds outcome name (moment (opening name) o told journal answered) o' told' journal'
+    answered'
+Headline outcome (Some (Asm text file)) o told journal answered o' told' journal' answered' =
+    Unit {0}

@@ -21,6 +21,8 @@ pub enum Outcome {
     Done(Report),
     /// So many turns were made, and process 1 has not exited.
     Bound(u64),
+    /// After so many turns nothing could happen any more: no thread is ready, and none will be.
+    Stuck(u64),
     /// The program of this name can't be opened.
     NoProgram(Items<u8>),
     /// The program's file is refused.
@@ -50,6 +52,7 @@ impl Outcome {
             Outcome::Exited(code) => *code,
             Outcome::Done(_) => 0,
             Outcome::Bound(_) => 230,
+            Outcome::Stuck(_) => 231,
             Outcome::BadWords => 233,
             Outcome::NoFile(_) => 234,
             Outcome::Large(_) => 235,

@@ -1,17 +1,18 @@
 ghost use Rattle.std.specs.Prelude.{◌≡◌, ◌≢◌, None, Some, true, IfOk, OnErr};
 ghost use Rattle.bas_edge.specs.Faults.{HasCause, Rose};
 ghost use Rattle.abi_calls.specs.Fresh.{IsFreshWorld};
+ghost use Rattle.turn_engine.specs.Moment.{moment};
 ghost use Rattle.bascule_top.specs.Assembly.{Assembly};
-ghost use Rattle.bascule_top.specs.Commands.{TURNS as bound, UsesNoHost, UsesNoShelf, command_of, words_of, is_name, start_settings};
+ghost use Rattle.bascule_top.specs.Commands.{UsesHost, UsesShelf, command_of, words_of, is_name, start_settings};
 ghost use Rattle.bascule_top.specs.declared.outcome.Outcome.TheVariants.{NoProgram};
-ghost use Rattle.bascule_top.specs.Outcomes.{Headline, Says, Stops, IsOfRun};
-ghost use Rattle.bascule_top.specs.Histories.{BreaksRun, IsHistory, Historic, opening};
-ghost use Rattle.turn_engine.specs.History.{moment};
+ghost use Rattle.bascule_top.specs.Begun.{Begun};
+ghost use Rattle.bascule_top.specs.Outcomes.{Headline, Says, IsGivenUp, opening};
+ghost use Rattle.bascule_top.specs.Histories.{Came, Historic};
 
 use crate::assembly::assemble_file;
 use crate::command::{Command, read_command};
 use crate::outcome::Outcome;
-use crate::run::{TURNS, run};
+use crate::run::{RunEnd, TURNS, run};
 use abi_calls::{Host, Settings};
 use bas_edge::{EdgeError, Memory, Shelf};
 use bas_items::Items;
@@ -41,58 +42,72 @@ fn no_program(alloc: Global, name: &[u8]) -> Result<Outcome, Memory>
     Ok(Outcome::NoProgram(Items::from_slice(alloc, name)?))
 }
 
-/// Starts a program, and makes its run.
-fn start<H: Host>(alloc: Global, name: &[u8], host: &mut H) -> Result<Outcome, EngineError>
+/// Makes the library OS that opens the program of this name, and serves the start to its end.
+fn begin<H: Host>(alloc: Global, name: &[u8], host: &mut H) -> Result<Machine, EngineError>
     requires fresh { IsFreshWorld (H.objects host.old) (H.answered_count host.old) }
     requires named { is_name name.now ≡ true }
-    ensures says { IfOk result (λ outcome. Says outcome name.now (H.told host.old) (H.objects host.new) (H.told host.new)) }
-    ensures own { IfOk result IsOfRun }
-    ensures stops { OnErr result (Stops name.now (H.told host.old) (H.told host.new)) }
-    ensures history { IfOk result (λ outcome. IsHistory outcome (moment (opening name.now) (H.objects host.old) (H.told host.old) (H.journal host.old) (H.answered_count host.old)) (H.objects host.new) (H.told host.new) (H.journal host.new) (H.answered_count host.new)) }
-    ensures broken { OnErr result (BreaksRun bound (moment (opening name.now) (H.objects host.old) (H.told host.old) (H.journal host.old) (H.answered_count host.old)) (H.told host.new) (H.journal host.new) (H.answered_count host.new)) }
+    ensures begun { IfOk result (λ machine. Begun name.now (moment (opening name.now) (H.objects host.old) (H.told host.old) (H.journal host.old) (H.answered_count host.old)) (moment machine.os (H.objects host.new) (H.told host.new) (H.journal host.new) (H.answered_count host.new))) }
+    ensures given_up { OnErr result (IsGivenUp name.now (moment (opening name.now) (H.objects host.old) (H.told host.old) (H.journal host.old) (H.answered_count host.old)) (H.told host.new) (H.journal host.new) (H.answered_count host.new)) }
     ensures cause { HasCause EngineError.Failed (H.fault_count host.old) (H.fault_count host.new) result }
 {
     let os = boot(alloc, name, settings_of_start(alloc))?;
     let mut machine = Machine { os };
     machine.boot(alloc, host)?;
+    Ok(machine)
+}
+
+/// Starts a program, and makes its run.
+fn start<H: Host>(alloc: Global, name: &[u8], host: &mut H) -> Result<Outcome, EngineError>
+    requires fresh { IsFreshWorld (H.objects host.old) (H.answered_count host.old) }
+    requires named { is_name name.now ≡ true }
+    ensures says { IfOk result (λ outcome. Says outcome name.now (H.told host.old) (H.objects host.new) (H.told host.new)) }
+    ensures history { IfOk result (λ outcome. Came outcome (moment (opening name.now) (H.objects host.old) (H.told host.old) (H.journal host.old) (H.answered_count host.old)) (H.objects host.new) (H.told host.new) (H.journal host.new) (H.answered_count host.new)) }
+    ensures given_up { OnErr result (IsGivenUp name.now (moment (opening name.now) (H.objects host.old) (H.told host.old) (H.journal host.old) (H.answered_count host.old)) (H.told host.new) (H.journal host.new) (H.answered_count host.new)) }
+    ensures cause { HasCause EngineError.Failed (H.fault_count host.old) (H.fault_count host.new) result }
+{
+    let mut machine = begin(alloc, name, host)?;
     match booted(&machine.os) {
         Boot::Going => unreachable!(),
         Boot::NoProgram => Ok(no_program(alloc, name)?),
         Boot::BadProgram(cause) => Ok(Outcome::BadProgram(cause)),
         Boot::Up => match run(alloc, &mut machine, host)? {
-            Some(code) => Ok(Outcome::Exited(code)),
-            None => Ok(Outcome::Bound(TURNS)),
+            RunEnd::Exited(code) => Ok(Outcome::Exited(code)),
+            RunEnd::Bound => Ok(Outcome::Bound(TURNS)),
+            RunEnd::Stuck(turns) => Ok(Outcome::Stuck(turns)),
         },
     }
 }
 
-/// Carries out the command that the words are, over a host that was not used and the user's files.
+/// Carries out the command that the words are, over a host and the user's files. A command that uses the host asks for
+/// one that was not used.
 ///
 /// `start NAME`: the program of this name, 1 to 80 bytes, runs with its name as its one argument, for at most
-/// 1,000,000 turns of at most 1,000 instructions each. Where the host tells its contents, the outcome is that of the
-/// monolithic machine's run over them, its files, output and errors are those of the run's last state, and its world
-/// agrees with that state. On every host each turn and each answered call was the next one of the run, nothing else was
-/// done to the host, and its journal and its count of answered calls grew by these calls. `HostFault` comes only where the host's count of faults rose; `OutOfMemory` may come in place
-/// of any other outcome of a start. After either, what the program wrote is a front of what the machine wrote after
-/// some number of turns, and the host is used no more.
+/// 1,000,000 turns of at most 1,000 instructions each. Where the host tells its files and its input, the outcome is that
+/// of the monolithic machine's run over them; the host's files, input and objects are those of the run's last state, and
+/// its output and errors, each where it is told, are what stood there and then what the run wrote. On every host each
+/// turn and each answered call was the next one of the run, and its journal and its count of answered calls grew by
+/// these calls. `HostFault` comes only where the host's count of faults rose; `OutOfMemory` may come in place of any
+/// other outcome of a start. After either the host is used no more: the last turn of the history was made, but not
+/// served to its end; what was written before it is written, and a first part of what it writes.
 ///
 /// `asm TEXT FILE`: the assembly text in the user's file TEXT, of at most 1 MiB, is assembled, and the user's file FILE
 /// is replaced by the executable file. `ShelfFault` comes only where the shelf's count of faults rose, and
-/// `OutOfMemory` may come in place of any other outcome; after all but `Done` the files are as before.
+/// `OutOfMemory` may come in place of any other outcome. Where the shelf tells its files, they are as before after all
+/// but `Done`.
 pub fn bascule<H: Host, F: Shelf>(
     alloc: Global,
     words: &[String],
     host: &mut H,
     shelf: &mut F,
 ) -> Outcome
-    requires fresh { IsFreshWorld (H.objects host.old) (H.answered_count host.old) }
-    ensures headline { Headline result (command_of (words_of words.now)) (H.objects host.old) (H.told host.old) (H.objects host.new) (H.told host.new) }
+    requires fresh { UsesHost (command_of (words_of words.now)) → IsFreshWorld (H.objects host.old) (H.answered_count host.old) }
+    ensures headline { Headline result (command_of (words_of words.now)) (H.objects host.old) (H.told host.old) (H.journal host.old) (H.answered_count host.old) (H.objects host.new) (H.told host.new) (H.journal host.new) (H.answered_count host.new) }
     ensures history { Historic result (command_of (words_of words.now)) (H.objects host.old) (H.told host.old) (H.journal host.old) (H.answered_count host.old) (H.objects host.new) (H.told host.new) (H.journal host.new) (H.answered_count host.new) }
     ensures fault { result ≡ Outcome.HostFault → Rose (H.fault_count host.old) (H.fault_count host.new) }
     ensures assembly { Assembly result (command_of (words_of words.now)) (F.files shelf.old) (F.files shelf.new) }
     ensures shelf_fault { result ≡ Outcome.ShelfFault → Rose (F.fault_count shelf.old) (F.fault_count shelf.new) }
-    ensures host_unused { UsesNoHost (command_of (words_of words.now)) → host.new ≡ host.old }
-    ensures shelf_unused { UsesNoShelf (command_of (words_of words.now)) → shelf.new ≡ shelf.old }
+    ensures host_unused { (UsesHost (command_of (words_of words.now)) → ⊥) → host.new ≡ host.old }
+    ensures shelf_unused { (UsesShelf (command_of (words_of words.now)) → ⊥) → shelf.new ≡ shelf.old }
 {
     match read_command(words) {
         None => Outcome::BadWords,

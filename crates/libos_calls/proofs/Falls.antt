@@ -2,42 +2,46 @@
 use Rattle.std.specs.Prelude.{◌≡◌, ℕ, ◌+◌, ◌-◌, ◌*◌, ◌/◌, ◌^◌, ◌<◌, ◌==◌, Bool, true, false, if◌then◌else◌, nat_le, nat_lt, List, [], ◌∷◌, ◌++◌, length, drop, min, IfSome}
 use Rattle.std.specs.declared.option.Option.{Option}
 use Rattle.std.specs.declared.option.Option.TheVariants.{None, Some}
+use Rattle.std.specs.declared.result.Result.{Result}
+use Rattle.std.specs.declared.result.Result.TheVariants.{Ok, Err}
 use Rattle.std.proofs.Common.{refl, arith, lit<, ltb-true, leb-false, length-append}
 use Rattle.std.proofs.lemmas.Bool.{eqb-false}
 use Rattle.std.proofs.lemmas.List.{length_push}
 use Rattle.abi_calls.specs.declared.reply.Reply.{Reply}
 use Rattle.abi_calls.specs.declared.reply.Reply.TheVariants.{Done, Handle, Bytes, Count, Length, BadAddress, NoAccess}
-use Rattle.mono_model.specs.Program.{is_plain, page_bytes}
+use Rattle.elf_loader.specs.declared.Program.{Program}
+use Rattle.mono_model.specs.declared.ProgramRefusal.{ProgramRefusal}
+use Rattle.mono_model.specs.Program.{program_of, page_bytes}
 use Rattle.mono_model.proofs.Sizes.{length-page_bytes}
 use Rattle.libos_state.specs.declared.cont.Cont.{Cont}
 use Rattle.libos_state.specs.declared.cont.Stage.{Stage}
-use Rattle.libos_state.specs.declared.cont.Stage.TheVariants.{SetContext, CloseHandles, ReadMemory, WriteStream, Configure, OpenConsole, OpenProgram, ProgramLength, ReadProgram, CloseProgram, CreateProcess, AllocateRun, WriteRun, ProtectRun, AllocateStack, WriteBlock, CreateThread, CreateEvent, StartThread}
+use Rattle.libos_state.specs.declared.cont.Stage.TheVariants.{SetContext, CloseHandles, ReadBuffer, WriteStream, Configure, OpenConsole, OpenProgram, ProgramLength, ReadProgram, CloseProgram, CreateProcess, AllocateRun, WriteRun, ProtectRun, AllocateStack, WriteBlock, CreateThread, CreateEvent, StartThread}
 use Rattle.libos_state.specs.declared.state.LibOs.{LibOs}
 use Rattle.libos_state.specs.Pending.{number, run_in, run_piece}
 use Rattle.libos_state.specs.Answered.{starting, with_step, service_closing, load_step, answered_at, answered, answered_in}
 use Rattle.libos_state.specs.Kept.{KeptAt, IsKept}
 use Rattle.libos_calls.proofs.Pieces.{length-run_piece}
-use Rattle.libos_calls.specs.Left.{left_at, left_of, calls_left, IsLengthSmall}
+use Rattle.libos_calls.specs.Left.{weighed, runs_left, left_at, left_of, calls_left, IsLengthSmall}
 
-closes_falls : (c : Cont) (handles : List ℕ) → left_of (Some (service_closing c (drop 1 handles))) < 2 * 2 ^ 66 + length handles
+closes_falls : (c : Cont) (handles : List ℕ) → left_of (Some (service_closing c (drop 1 handles))) < weighed 0 0 1 (length handles) + 1
 closes_falls c [] = omega arith
 closes_falls c (h ∷ []) = omega arith
 closes_falls c (h ∷ k ∷ handles) = omega arith
 
 opened_falls : (c : Cont) (handles : List ℕ) (h : ℕ) (all : Bool) → length handles < 3 →
-    left_of (Some (starting c (if all then OpenProgram else OpenConsole) [] (handles ++ h ∷ []) [])) < 14 * 2 ^ 66 + (3 - length handles)
+    left_of (Some (starting c (if all then OpenProgram else OpenConsole) [] (handles ++ h ∷ []) [])) < weighed 2 0 5 (3 - length handles) + 1
 opened_falls c handles h true few = omega arith
 opened_falls c handles h false few = omega (arith, length_push handles h)
 
 length_falls : (c : Cont) (size : ℕ) (none : Bool) → size < 2 ^ 64 →
-    left_of (Some (if none then starting c CloseProgram [] c.handles [] else starting c ReadProgram [] c.handles (size ∷ []))) < 12 * 2 ^ 66
+    left_of (Some (if none then starting c CloseProgram [] c.handles [] else starting c ReadProgram [] c.handles (size ∷ []))) < weighed 2 0 3 0 + 1
 length_falls c size true small = omega arith
 length_falls c size false small = omega arith
 
 read_falls : (c : Cont) (bytes : List ℕ) (none all : Bool) → (length bytes == 0) ≡ none → nat_le (number c 0) (length (c.bytes ++ bytes)) ≡ all →
     left_of (Some (if none then starting c CloseProgram c.bytes c.handles []
     else (if all then starting c CloseProgram (c.bytes ++ bytes) c.handles []
-    else starting c ReadProgram (c.bytes ++ bytes) c.handles c.numbers))) < 11 * 2 ^ 66 + (number c 0 - length c.bytes)
+    else starting c ReadProgram (c.bytes ++ bytes) c.handles c.numbers))) < weighed 2 0 2 (number c 0 - length c.bytes) + 1
 read_falls c bytes true all n a = omega arith
 read_falls c bytes false true n a = omega arith
 read_falls c bytes false false n a =
@@ -45,52 +49,44 @@ read_falls c bytes false false n a =
     let more = leb-false (number c 0) (length (c.bytes ++ bytes)) a in
     omega (arith, length-append c.bytes bytes)
 
-loads_falls : (os : LibOs) (c : Cont) (plain : Bool) → calls_left (with_step os (load_step c plain)) < 10 * 2 ^ 66
-loads_falls os c true = omega arith
-loads_falls os c false = omega arith
+loads_falls : (os : LibOs) (c : Cont) (program : Result Program ProgramRefusal) → calls_left (with_step os (load_step c program)) < weighed 2 0 1 0 + 1
+loads_falls os c (Ok program) = omega arith
+loads_falls os c (Err cause) = omega arith
 
-run_small : (file size : ℕ) → file < 2 ^ 32 → size ≡ (file + 4095) / 4096 * 4096 → 7 * 2 ^ 66 + (size - 0) < 8 * 2 ^ 66
-run_small file size short pages = omega arith
+run_small : (file size first : ℕ) → file < 2 ^ 32 → size ≡ (file + 4095) / 4096 * 4096 → first ≡ 0 → weighed 1 1 1 (size - 0) + 1 < weighed 1 (1 - first) 2 0 + 1
+run_small file size first short pages f = omega arith
 
-piece_nearer : (size from cut : ℕ) → cut ≡ min 65536 (size - from) → from + cut < size → 7 * 2 ^ 66 + (size - (from + cut)) < 7 * 2 ^ 66 + (size - from)
-piece_nearer size from cut piece more = omega arith
+piece_nearer : (size from cut first : ℕ) → cut ≡ min 65536 (size - from) → from + cut < size → first ≡ 0 → weighed 1 1 1 (size - (from + cut)) + 1 < weighed 1 (1 - first) 1 (size - from) + 1
+piece_nearer size from cut first piece more f = omega arith
 
-writes_falls : (c : Cont) (more : Bool) → nat_lt (number c 1 + length (run_piece c)) (length (run_in c).bytes) ≡ more →
-    left_of (Some (if more then starting c WriteRun c.bytes c.handles (0 ∷ (number c 1 + length (run_piece c)) ∷ []) else starting c ProtectRun c.bytes c.handles (0 ∷ []))) < left_at c WriteRun
-writes_falls c true m = piece_nearer (length (run_in c).bytes) (number c 1) (length (run_piece c)) (length-run_piece c) (ltb-true _ _ m)
-writes_falls c false m = omega arith
+writes_falls : (c : Cont) (more : Bool) → number c 0 ≡ 0 → nat_lt (number c 1 + length (run_piece c)) (length (run_in c).bytes) ≡ more →
+    left_of (Some (if more then starting c WriteRun c.bytes c.handles (0 ∷ (number c 1 + length (run_piece c)) ∷ []) else starting c ProtectRun c.bytes c.handles (0 ∷ []))) < left_at c WriteRun + 1
+writes_falls c true first m = piece_nearer (length (run_in c).bytes) (number c 1) (length (run_piece c)) (number c 0) (length-run_piece c) (ltb-true _ _ m) first
+writes_falls c false first m = omega arith
 
--- Each stage is some way from the end.
-pub left_at-positive : (c : Cont) (stage : Stage) → 0 < left_at c stage
-left_at-positive c CloseHandles = omega arith
-left_at-positive c OpenConsole = omega arith
-left_at-positive c ReadProgram = omega arith
-left_at-positive c WriteRun = omega arith
-left_at-positive c _ = lit< tt
-
-falls_at : (os : LibOs) (c : Cont) (stage : Stage) (r : Reply) → KeptAt c stage → (stage ≡ ProgramLength → IsLengthSmall r) → calls_left (answered_at os c stage r) < left_at c stage
+falls_at : (os : LibOs) (c : Cont) (stage : Stage) (r : Reply) → KeptAt c stage → (stage ≡ ProgramLength → IsLengthSmall r) → calls_left (answered_at os c stage r) < left_at c stage + 1
 falls_at os c SetContext Done kept small = lit< tt
 falls_at os c CloseHandles Done kept small = closes_falls c c.handles
-falls_at os c ReadMemory (Bytes bytes) kept small = lit< tt
-falls_at os c ReadMemory BadAddress kept small = lit< tt
-falls_at os c ReadMemory NoAccess kept small = lit< tt
+falls_at os c ReadBuffer (Bytes bytes) kept small = lit< tt
+falls_at os c ReadBuffer BadAddress kept small = lit< tt
+falls_at os c ReadBuffer NoAccess kept small = lit< tt
 falls_at os c WriteStream (Count n) kept small = lit< tt
 falls_at os c Configure Done kept small = lit< tt
 falls_at os c OpenConsole (Handle h) kept small = opened_falls c c.handles h (length (c.handles ++ h ∷ []) == 3) kept
 falls_at os c OpenProgram (Handle h) kept small = lit< tt
 falls_at os c ProgramLength (Length size) kept small = length_falls c size (size == 0) (small refl)
 falls_at os c ReadProgram (Bytes bytes) kept small = read_falls c bytes (length bytes == 0) (nat_le (number c 0) (length (c.bytes ++ bytes))) refl refl
-falls_at os c CloseProgram Done kept small = loads_falls os c (is_plain c.bytes)
+falls_at os c CloseProgram Done kept small = loads_falls os c (program_of c.bytes)
 falls_at os c CreateProcess (Handle h) kept small = lit< tt
-falls_at os c AllocateRun Done kept small = run_small (length c.bytes) (length (page_bytes c.bytes)) kept.short (length-page_bytes c.bytes kept.headed)
-falls_at os c WriteRun Done kept small = writes_falls c (nat_lt (number c 1 + length (run_piece c)) (length (run_in c).bytes)) refl
-falls_at os c ProtectRun Done kept small = lit< tt
+falls_at os c AllocateRun Done kept small = run_small (length c.bytes) (length (page_bytes c.bytes)) (number c 0) kept.short (length-page_bytes c.bytes kept.headed) kept.first
+falls_at os c WriteRun Done kept small = writes_falls c (nat_lt (number c 1 + length (run_piece c)) (length (run_in c).bytes)) kept.program.first refl
+falls_at os c ProtectRun Done kept small = omega arith
 falls_at os c AllocateStack Done kept small = lit< tt
 falls_at os c WriteBlock Done kept small = lit< tt
 falls_at os c CreateThread (Handle h) kept small = lit< tt
 falls_at os c CreateEvent (Handle h) kept small = lit< tt
 falls_at os c StartThread Done kept small = lit< tt
-falls_at os c stage r kept small = left_at-positive c stage
+falls_at os c stage r kept small = omega arith
 
 falls_in : (os : LibOs) (cont : Option Cont) (r : Reply) → IfSome cont (λ c. KeptAt c c.stage) → IfSome cont (λ c. c.stage ≡ ProgramLength → IsLengthSmall r) → 0 < left_of cont → calls_left (answered_in os cont r) < left_of cont
 falls_in os None r kept small some = absurd (omega arith)

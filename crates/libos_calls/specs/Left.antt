@@ -5,35 +5,63 @@ use Rattle.std.specs.declared.option.Option.{Option}
 use Rattle.std.specs.declared.option.Option.TheVariants.{None, Some}
 use Rattle.abi_calls.specs.declared.reply.Reply.{Reply}
 use Rattle.abi_calls.specs.declared.reply.Reply.TheVariants.{Length}
+use Rattle.mono_model.specs.Program.{plain_program}
 use Rattle.libos_state.specs.declared.cont.Cont.{Cont}
 use Rattle.libos_state.specs.declared.cont.Stage.{Stage}
-use Rattle.libos_state.specs.declared.cont.Stage.TheVariants.{SetContext, Resume, CloseHandles, ExitProcess, ReadMemory, WriteStream, Configure, OpenConsole, OpenProgram, ProgramLength, ReadProgram, CloseProgram, CreateProcess, AllocateRun, WriteRun, ProtectRun, AllocateStack, WriteBlock, CreateThread, CreateEvent, StartThread}
+use Rattle.libos_state.specs.declared.cont.Stage.TheVariants.{SetContext, Resume, CloseHandles, ExitProcess, ReadBuffer, WriteStream, Configure, OpenConsole, OpenProgram, ProgramLength, ReadProgram, CloseProgram, CreateProcess, AllocateRun, WriteRun, ProtectRun, AllocateStack, WriteBlock, CreateThread, CreateEvent, StartThread}
 use Rattle.libos_state.specs.declared.state.LibOs.{LibOs}
 use Rattle.libos_state.specs.Pending.{number, run_in}
 
--- How many stages are left, with this one.
-abbrev pub stages_left : Stage → ℕ
-stages_left Resume = 1
-stages_left SetContext = 2
-stages_left WriteStream = 3
-stages_left ReadMemory = 4
-stages_left ExitProcess = 1
-stages_left CloseHandles = 2
-stages_left StartThread = 1
-stages_left CreateEvent = 2
-stages_left CreateThread = 3
-stages_left WriteBlock = 4
-stages_left AllocateStack = 5
-stages_left ProtectRun = 6
-stages_left WriteRun = 7
-stages_left AllocateRun = 8
-stages_left CreateProcess = 9
-stages_left CloseProgram = 10
-stages_left ReadProgram = 11
-stages_left ProgramLength = 12
-stages_left OpenProgram = 13
-stages_left OpenConsole = 14
-stages_left Configure = 15
+-- How many phases are behind this one. A start opens and reads the program, then loads its runs,
+-- and then begins; every other service has one phase.
+abbrev pub phases_behind : Stage → ℕ
+phases_behind Configure = 2
+phases_behind OpenConsole = 2
+phases_behind OpenProgram = 2
+phases_behind ProgramLength = 2
+phases_behind ReadProgram = 2
+phases_behind CloseProgram = 2
+phases_behind CreateProcess = 2
+phases_behind AllocateRun = 1
+phases_behind WriteRun = 1
+phases_behind ProtectRun = 1
+phases_behind _ = 0
+
+-- How many runs of the program are not loaded yet.
+abbrev pub runs_left : Cont → ℕ
+runs_left c = length (plain_program c.bytes).runs - number c 0
+
+-- How many rounds of the phase are left: a phase whose stages come round for each run has as many
+-- as there are runs.
+abbrev pub rounds_left : Cont → Stage → ℕ
+rounds_left c AllocateRun = runs_left c
+rounds_left c WriteRun = runs_left c
+rounds_left c ProtectRun = runs_left c
+rounds_left c _ = 0
+
+-- How many stages of the round are behind this one.
+abbrev pub stages_behind : Stage → ℕ
+stages_behind Resume = 0
+stages_behind SetContext = 1
+stages_behind WriteStream = 2
+stages_behind ReadBuffer = 3
+stages_behind ExitProcess = 0
+stages_behind CloseHandles = 1
+stages_behind StartThread = 0
+stages_behind CreateEvent = 1
+stages_behind CreateThread = 2
+stages_behind WriteBlock = 3
+stages_behind AllocateStack = 4
+stages_behind ProtectRun = 0
+stages_behind WriteRun = 1
+stages_behind AllocateRun = 2
+stages_behind CreateProcess = 0
+stages_behind CloseProgram = 1
+stages_behind ReadProgram = 2
+stages_behind ProgramLength = 3
+stages_behind OpenProgram = 4
+stages_behind OpenConsole = 5
+stages_behind Configure = 6
 
 -- What is left to do in this stage: the handles that are still to be closed or opened, and the
 -- bytes that are still to be read or written.
@@ -44,13 +72,18 @@ left_in c ReadProgram = number c 0 - length c.bytes
 left_in c WriteRun = length (run_in c).bytes - number c 1
 left_in c _ = 0
 
--- A stage outweighs all that is left to do in the next.
-abbrev pub left_at : Cont → Stage → ℕ
-left_at c stage = stages_left stage * 2 ^ 66 + left_in c stage
+-- A phase outweighs all its rounds, a round all its stages, and a stage all that is to be done in
+-- one.
+abbrev pub weighed : ℕ → ℕ → ℕ → ℕ → ℕ
+weighed phases rounds stages rest = ((phases * 2 ^ 32 + rounds) * 2 ^ 4 + stages) * 2 ^ 66 + rest
 
+abbrev pub left_at : Cont → Stage → ℕ
+left_at c stage = weighed (phases_behind stage) (rounds_left c stage) (stages_behind stage) (left_in c stage)
+
+-- A service in progress has a call to make at least.
 abbrev pub left_of : Option Cont → ℕ
 left_of None = 0
-left_of (Some c) = left_at c c.stage
+left_of (Some c) = left_at c c.stage + 1
 
 -- 0 exactly where no service is in progress.
 abbrev pub calls_left : LibOs → ℕ

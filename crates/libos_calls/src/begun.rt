@@ -1,7 +1,7 @@
 ghost use Rattle.std.specs.Prelude.{◌≡◌, [], IfOk};
 ghost use Rattle.std.specs.Option.{option_copied};
 ghost use Rattle.libos_state.specs.Entered as spec;
-ghost use Rattle.libos_state.specs.Fits as fits;
+ghost use Rattle.libos_state.specs.Records as records;
 ghost use Rattle.libos_state.specs.Records.{process_named};
 
 use abi_calls::Settings;
@@ -57,7 +57,7 @@ fn process_by_pid(processes: &[ProcessNote], pid: u64) -> Option<&ProcessNote>
 
 /// The exit code that the record of process 1 holds; `None` where it holds none. Takes no memory.
 pub fn exit_code(os: &LibOs) -> Option<u8>
-    ensures { result ≡ fits.exit_code os.now }
+    ensures { result ≡ records.exit_code os.now }
 {
     match process_by_pid(os.processes.as_slice(), 1) {
         Some(note) => note.code,

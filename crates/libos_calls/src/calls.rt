@@ -1,12 +1,14 @@
-ghost use Rattle.std.specs.Prelude.{◌≡◌, IfOk, IfSome, IsTrue, true};
+ghost use Rattle.std.specs.Prelude.{◌≡◌, IfOk};
 ghost use Rattle.libos_state.specs.Pending as spec;
 ghost use Rattle.libos_state.specs.Records.{description_behind};
-ghost use Rattle.libos_state.specs.Laws.{AsksTaken};
 ghost use Rattle.libos_state.specs.Kept.{IsKept, KeptAt};
-ghost use Rattle.libos_calls.specs.Families.{is_service};
+ghost use Rattle.libos_state.specs.declared.state.LibOs.{LibOs};
 
 use crate::kept::{A0, description_of, number_at, upcall_of};
-use crate::start_calls::asked_start;
+use crate::start_calls::{
+    allocate_run, allocate_stack, close_program, configure, create_thread, open_console,
+    open_program, program_length, protect_run, read_program, start_thread, write_block, write_run,
+};
 use abi_calls::Call;
 use bas_edge::Memory;
 use libos_state::{Cont, LibOs, Stage};
@@ -24,40 +26,66 @@ fn stream_handle(os: &LibOs, process: u64, fd: u64) -> u64
     }
 }
 
-/// The call of a stage that serves a trap.
-fn asked_service(os: &LibOs, cont: &Cont) -> Result<Call, Memory>
-    requires { is_service cont.now.stage ≡ true }
-    ensures { IfOk result (λ call. call ≡ spec.asked os.now cont.now cont.now.stage) }
+fn set_context(cont: &Cont) -> Call
+    requires { cont.now.stage ≡ Stage.SetContext }
+    ensures { (os : LibOs) → result ≡ spec.asked os cont.now cont.now.stage }
+{
+    Call::ThreadContext {
+        thread: upcall_of(&cont.event).thread,
+        context: cont.next,
+    }
+}
+
+fn resume(cont: &Cont) -> Call
+    requires { cont.now.stage ≡ Stage.Resume }
+    ensures { (os : LibOs) → result ≡ spec.asked os cont.now cont.now.stage }
+{
+    Call::ThreadResume {
+        thread: upcall_of(&cont.event).thread,
+    }
+}
+
+fn close_next(cont: &Cont) -> Call
+    requires { cont.now.stage ≡ Stage.CloseHandles }
+    ensures { (os : LibOs) → result ≡ spec.asked os cont.now cont.now.stage }
+{
+    Call::Close {
+        handle: number_at(cont.handles.as_slice(), 0),
+    }
+}
+
+fn exit_process(cont: &Cont) -> Call
+    requires { cont.now.stage ≡ Stage.ExitProcess }
+    ensures { (os : LibOs) → result ≡ spec.asked os cont.now cont.now.stage }
+{
+    Call::ProcessExit {
+        process: upcall_of(&cont.event).process,
+        code: (number_at(cont.numbers.as_slice(), 0) % 256) as u8,
+    }
+}
+
+fn read_buffer(cont: &Cont) -> Call
+    requires { cont.now.stage ≡ Stage.ReadBuffer }
+    ensures { (os : LibOs) → result ≡ spec.asked os cont.now cont.now.stage }
 {
     let upcall = upcall_of(&cont.event);
     let registers = upcall.context.x;
-    match cont.stage {
-        Stage::SetContext => Ok(Call::ThreadContext {
-            thread: upcall.thread,
-            context: cont.next,
-        }),
-        Stage::Resume => Ok(Call::ThreadResume {
-            thread: upcall.thread,
-        }),
-        Stage::CloseHandles => Ok(Call::Close {
-            handle: number_at(cont.handles.as_slice(), 0),
-        }),
-        Stage::ExitProcess => Ok(Call::ProcessExit {
-            process: upcall.process,
-            code: (number_at(cont.numbers.as_slice(), 0) % 256) as u8,
-        }),
-        Stage::ReadMemory => Ok(Call::MemoryRead {
-            process: upcall.process,
-            address: registers[A0 + 1],
-            count: registers[A0 + 2].min(PIECE),
-        }),
-        Stage::WriteStream => Ok(Call::StreamWrite {
-            stream: stream_handle(os, upcall.process, registers[A0]),
-            offset: number_at(cont.numbers.as_slice(), 0),
-            bytes: cont.bytes.clone()?,
-        }),
-        _ => unreachable!(),
+    Call::MemoryRead {
+        process: upcall.process,
+        address: registers[A0 + 1],
+        count: registers[A0 + 2].min(PIECE),
     }
+}
+
+fn write_stream(os: &LibOs, cont: &Cont) -> Result<Call, Memory>
+    ensures { IfOk result (λ call. call ≡ spec.asked os.now cont.now Stage.WriteStream) }
+{
+    let upcall = upcall_of(&cont.event);
+    Ok(Call::StreamWrite {
+        stream: stream_handle(os, upcall.process, upcall.context.x[A0]),
+        offset: number_at(cont.numbers.as_slice(), 0),
+        bytes: cont.bytes.clone()?,
+    })
 }
 
 /// The call of a service's stage.
@@ -66,25 +94,37 @@ fn asked(os: &LibOs, alloc: Global, cont: &Cont) -> Result<Call, Memory>
     ensures { IfOk result (λ call. call ≡ spec.asked os.now cont.now cont.now.stage) }
 {
     match cont.stage {
-        Stage::SetContext
-        | Stage::Resume
-        | Stage::CloseHandles
-        | Stage::ExitProcess
-        | Stage::ReadMemory
-        | Stage::WriteStream => asked_service(os, cont),
-        _ => asked_start(os, alloc, cont),
+        Stage::SetContext => Ok(set_context(cont)),
+        Stage::Resume => Ok(resume(cont)),
+        Stage::CloseHandles => Ok(close_next(cont)),
+        Stage::ExitProcess => Ok(exit_process(cont)),
+        Stage::ReadBuffer => Ok(read_buffer(cont)),
+        Stage::WriteStream => write_stream(os, cont),
+        Stage::Configure => configure(os),
+        Stage::OpenConsole => Ok(open_console(cont)),
+        Stage::OpenProgram => open_program(alloc, cont),
+        Stage::ProgramLength => Ok(program_length(cont)),
+        Stage::ReadProgram => Ok(read_program(cont)),
+        Stage::CloseProgram => Ok(close_program(cont)),
+        Stage::CreateProcess => Ok(Call::ProcessCreate),
+        Stage::AllocateRun => Ok(allocate_run(cont)),
+        Stage::WriteRun => write_run(alloc, cont),
+        Stage::ProtectRun => Ok(protect_run(cont)),
+        Stage::AllocateStack => Ok(allocate_stack(cont)),
+        Stage::WriteBlock => write_block(alloc, cont),
+        Stage::CreateThread => Ok(create_thread(cont)),
+        Stage::CreateEvent => Ok(Call::EventCreate),
+        Stage::StartThread => Ok(start_thread(cont)),
     }
 }
 
-/// The call that the service in progress makes next, which is one that hosts take; `None` exactly where none is in
-/// progress.
+/// The call that the service in progress makes next; `None` exactly where none is in progress.
 ///
 /// # Errors
 /// There was no memory.
 pub fn pending(os: &LibOs, alloc: Global) -> Result<Option<Call>, Memory>
     requires { IsKept os.now }
-    ensures value { IfOk result (λ call. call ≡ spec.pending os.now) }
-    ensures taken { IfOk result (λ call. IfSome call (AsksTaken os.now)) }
+    ensures { IfOk result (λ call. call ≡ spec.pending os.now) }
 {
     match &os.cont {
         None => Ok(None),

@@ -1,12 +1,14 @@
-ghost use Rattle.std.specs.Prelude.{◌≡◌, ◌<◌, ◌^◌, IfOk, OnOk, map, ◌++◌};
+ghost use Rattle.std.specs.Prelude.{◌≡◌, ◌<◌, ◌^◌, ◌==◌, not, filter, IfOk, OnOk, map, ◌++◌};
+ghost use Rattle.std.specs.List.{list_any};
 ghost use Rattle.mono_model.specs.Calls.{fault_code};
 ghost use Rattle.mono_model.specs.Machine.{register};
 ghost use Rattle.libos_state.specs.Entered as spec;
+ghost use Rattle.libos_state.specs.Records as records;
 ghost use Rattle.libos_state.specs.Laws.{EntersTurn};
 ghost use Rattle.libos_state.specs.declared.notes.Description.{Description};
 ghost use Rattle.libos_state.specs.declared.state.LibOs.{LibOs};
 
-use crate::kept::{A0, description_of};
+use crate::kept::{A0, description_of, process_by_handle};
 use crate::replies::{bare, closing, error, finishing};
 use abi_calls::Upcall;
 use bas_edge::Memory;
@@ -51,7 +53,7 @@ fn write_to(alloc: Global, upcall: Upcall, access: u8, count: u64) -> Cont
         if count == 0 {
             finishing(alloc, Event::Up(upcall), 0)
         } else {
-            bare(alloc, Event::Up(upcall), Stage::ReadMemory)
+            bare(alloc, Event::Up(upcall), Stage::ReadBuffer)
         }
     } else {
         finishing(alloc, Event::Up(upcall), error(EBADF))
@@ -68,21 +70,127 @@ fn write_service(alloc: Global, upcall: Upcall, description: Option<Description>
     }
 }
 
-/// The handles of the open descriptions, and those of the threads' events.
-fn handles_to_close(alloc: Global, os: &LibOs) -> Result<Items<u64>, AllocError>
-    ensures { IfOk result (λ handles. handles ≡ spec.handles_of os.now) }
+/// The process that has a handle, by its id; 0 where there is none.
+fn pid_with(os: &LibOs, handle: u64) -> u64
+    ensures { result ≡ records.pid_with os.now handle }
 {
-    let streams = os.descriptions.as_slice().iter().map(|note| note.handle);
-    let events = os.threads.as_slice().iter().map(|note| note.event);
+    match process_by_handle(os.processes.as_slice(), handle) {
+        Some(note) => note.pid,
+        None => 0,
+    }
+}
+
+/// Whether a descriptor of the process names the description.
+fn has_open(note: &ProcessNote, id: u64) -> bool
+    ensures { result ≡ list_any (λ d. d.description == id) note.now.descriptors }
+{
+    note.descriptors
+        .as_slice()
+        .iter()
+        .any(|named| named.description == id)
+}
+
+/// Whether a descriptor of a process other than this one names the description.
+fn names_description(note: &ProcessNote, pid: u64, id: u64) -> bool
+    ensures { result ≡ spec.names_description pid id note.now }
+{
+    note.pid != pid && has_open(note, id)
+}
+
+/// Whether a process other than this one has the description open.
+fn is_open_without(processes: &[ProcessNote], pid: u64, id: u64) -> bool
+    ensures { result ≡ list_any (spec.names_description pid id) processes.now }
+{
+    processes
+        .iter()
+        .any(|note| names_description(note, pid, id))
+}
+
+/// The descriptions that the process alone has open.
+fn descriptions_of(alloc: Global, os: &LibOs, pid: u64) -> Result<Items<Description>, AllocError>
+    ensures { IfOk result (λ own.
+        own ≡ filter (λ d. not (spec.is_open_without os.now pid d.id)) os.now.descriptions) }
+{
+    let processes = os.processes.as_slice();
+    let own = os
+        .descriptions
+        .as_slice()
+        .iter()
+        .copied()
+        .filter(|note| !is_open_without(processes, pid, note.id))
+        .collect(alloc)?;
+    Ok(Items::from_vec(own))
+}
+
+/// The threads of the process.
+fn threads_of(
+    alloc: Global,
+    threads: &[ThreadNote],
+    pid: u64,
+) -> Result<Items<ThreadNote>, AllocError>
+    ensures { IfOk result (λ own. own ≡ filter (λ n. n.pid == pid) threads.now) }
+{
+    let own = threads
+        .iter()
+        .copied()
+        .filter(|note| note.pid == pid)
+        .collect(alloc)?;
+    Ok(Items::from_vec(own))
+}
+
+/// The handles of the descriptions that the process alone has open, and those of its threads' events.
+fn handles_to_close(alloc: Global, os: &LibOs, pid: u64) -> Result<Items<u64>, AllocError>
+    ensures { IfOk result (λ handles. handles ≡ spec.handles_of os.now pid) }
+{
+    let descriptions = descriptions_of(alloc, os, pid)?;
+    let threads = threads_of(alloc, os.threads.as_slice(), pid)?;
+    let streams = descriptions.as_slice().iter().map(|note| note.handle);
+    let events = threads.as_slice().iter().map(|note| note.event);
     let handles = streams.chain(events).collect(alloc)?;
     Ok(Items::from_vec(handles))
 }
 
-/// The record of a process, which keeps its code alone where it is the one that ends.
-fn note_with_end(alloc: Global, note: ProcessNote, process: u64, code: u8) -> ProcessNote
-    ensures { result ≡ spec.note_ended process code note }
+/// The descriptions that a process other than this one has open.
+fn descriptions_without(
+    alloc: Global,
+    os: &LibOs,
+    pid: u64,
+) -> Result<Items<Description>, AllocError>
+    ensures { IfOk result (λ left.
+        left ≡ filter (λ d. spec.is_open_without os.now pid d.id) os.now.descriptions) }
 {
-    if note.handle == process {
+    let processes = os.processes.as_slice();
+    let left = os
+        .descriptions
+        .as_slice()
+        .iter()
+        .copied()
+        .filter(|note| is_open_without(processes, pid, note.id))
+        .collect(alloc)?;
+    Ok(Items::from_vec(left))
+}
+
+/// The threads of the other processes.
+fn threads_without(
+    alloc: Global,
+    threads: &[ThreadNote],
+    pid: u64,
+) -> Result<Items<ThreadNote>, AllocError>
+    ensures { IfOk result (λ left. left ≡ filter (λ n. not (n.pid == pid)) threads.now) }
+{
+    let left = threads
+        .iter()
+        .copied()
+        .filter(|note| note.pid != pid)
+        .collect(alloc)?;
+    Ok(Items::from_vec(left))
+}
+
+/// The record of a process, which keeps its code alone where it is the one that ends.
+fn note_with_end(alloc: Global, note: ProcessNote, pid: u64, code: u8) -> ProcessNote
+    ensures { result ≡ spec.note_ended pid code note }
+{
+    if note.pid == pid {
         ProcessNote {
             pid: note.pid,
             handle: note.handle,
@@ -98,28 +206,39 @@ fn note_with_end(alloc: Global, note: ProcessNote, process: u64, code: u8) -> Pr
 fn notes_with_end(
     alloc: Global,
     notes: Items<ProcessNote>,
-    process: u64,
+    pid: u64,
     code: u8,
 ) -> Result<Items<ProcessNote>, AllocError>
-    ensures { IfOk result (λ ended. ended ≡ map (spec.note_ended process code) notes) }
+    ensures { IfOk result (λ ended. ended ≡ map (spec.note_ended pid code) notes) }
 {
     let notes = notes.into_vec().into_iter();
     let ended = notes
-        .map(|note| note_with_end(alloc, note, process, code))
+        .map(|note| note_with_end(alloc, note, pid, code))
         .collect(alloc)?;
     Ok(Items::from_vec(ended))
 }
 
-/// A process ends: its records but for its code are gone, and its handles are to be closed.
+/// A process ends: its code is recorded, and its descriptors, its threads and what it alone has open are forgotten.
+fn forget_process(os: &mut LibOs, alloc: Global, pid: u64, code: u8) -> Result<(), AllocError>
+    ensures { OnOk result (os.new ≡ spec.without_process os.old pid code) }
+{
+    let threads = threads_without(alloc, os.threads.as_slice(), pid)?;
+    let descriptions = descriptions_without(alloc, os, pid)?;
+    let processes = std::mem::replace(&mut os.processes, Items::new(alloc));
+    os.processes = notes_with_end(alloc, processes, pid, code)?;
+    os.threads = threads;
+    os.descriptions = descriptions;
+    Ok(())
+}
+
+/// A process ends: its handles are to be closed.
 fn end_process(os: &mut LibOs, alloc: Global, upcall: Upcall, code: u8) -> Result<(), Memory>
     ensures { OnOk result (os.new ≡ spec.ends_process os.old upcall code) }
 {
-    let handles = handles_to_close(alloc, os)?;
+    let pid = pid_with(os, upcall.process);
+    let handles = handles_to_close(alloc, os, pid)?;
     let numbers = Items::from_slice(alloc, &[u64::from(code)])?;
-    let processes = std::mem::replace(&mut os.processes, Items::new(alloc));
-    os.processes = notes_with_end(alloc, processes, upcall.process, code)?;
-    os.threads = Items::new(alloc);
-    os.descriptions = Items::new(alloc);
+    forget_process(os, alloc, pid, code)?;
     os.cont = Some(closing(alloc, Event::Up(upcall), handles, numbers));
     Ok(())
 }

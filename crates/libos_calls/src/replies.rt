@@ -1,4 +1,4 @@
-ghost use Rattle.std.specs.Prelude.{◌≡◌, ◌<◌, IfOk, OnOk, IfSome, None, Some, true, [], ◌∷◌, drop};
+ghost use Rattle.std.specs.Prelude.{◌≡◌, ◌<◌, IfOk, OnOk, IfSome, [], ◌∷◌, drop};
 ghost use Rattle.mono_model.specs.Machine as machine;
 ghost use Rattle.mono_model.specs.Calls as calls;
 ghost use Rattle.libos_state.specs.declared.state.LibOs.{LibOs};
@@ -7,15 +7,18 @@ ghost use Rattle.libos_state.specs.Answered as spec;
 ghost use Rattle.libos_state.specs.Pending.{upcall_in, number};
 ghost use Rattle.libos_state.specs.Kept.{IsKept, KeptAt};
 ghost use Rattle.libos_state.specs.Laws.{KeepsMeaning};
-ghost use Rattle.libos_calls.specs.Families.{is_service};
 ghost use Rattle.libos_calls.specs.Left.{calls_left, IsLengthSmall};
 
-use crate::kept::{A0, upcall_of};
-use crate::start_replies::{change_of, start_step};
+use crate::kept::{A0, items_from, upcall_of};
+use crate::start_replies::{
+    at_stage, change_of, child_made, end_opened, event_made, length_told, piece_read,
+    piece_written, program_opened, program_read, run_allocated, thread_made, with_handles,
+};
 use abi_calls::Reply;
 use bas_edge::Memory;
 use bas_items::Items;
-use libos_state::{Change, Cont, Event, LibOs, Stage, Step};
+use libos_state::Step::{Asks, Ends, Stops};
+use libos_state::{Boot, Change, Cont, Event, LibOs, Stage, Step};
 use rv_core::Context;
 use std::alloc::{AllocError, Global};
 
@@ -100,68 +103,69 @@ pub fn closing(alloc: Global, event: Event, handles: Items<u64>, numbers: Items<
     cont
 }
 
-/// The handles behind the first.
-fn rest_of(alloc: Global, handles: &[u64]) -> Result<Items<u64>, AllocError>
-    ensures { IfOk result (λ rest. rest ≡ drop 1 handles.now) }
+/// The thread has its registers, which it keeps.
+fn resuming(mut cont: Cont) -> Cont
+    ensures { result ≡ record cont { stage = Stage.Resume } }
 {
-    match handles.split_first() {
-        Some((_, rest)) => Items::from_slice(alloc, rest),
-        None => Ok(Items::new(alloc)),
-    }
+    cont.stage = Stage::Resume;
+    cont
 }
 
-/// What a service on a trap does on a reply.
-fn service_step(alloc: Global, cont: Cont, reply: &Reply) -> Result<Step, Memory>
-    requires { is_service cont.stage ≡ true }
-    ensures { IfOk result (λ step. step ≡ spec.next cont cont.stage reply.now) }
+/// A handle of the process that ends is closed.
+fn handle_closed(alloc: Global, cont: Cont) -> Result<Cont, AllocError>
+    ensures { IfOk result (λ next. next ≡ spec.service_closing cont (drop 1 cont.handles)) }
 {
-    let Cont {
-        event,
-        stage,
-        next: _,
-        names: _,
-        bytes: _,
-        handles,
-        numbers,
-    } = cont;
-    match (stage, reply) {
-        (Stage::SetContext, Reply::Done) => Ok(Step::Asks(bare(alloc, event, Stage::Resume))),
-        (Stage::CloseHandles, Reply::Done) => {
-            let rest = rest_of(alloc, handles.as_slice())?;
-            Ok(Step::Asks(closing(alloc, event, rest, numbers)))
-        }
-        (Stage::ReadMemory, Reply::Bytes(bytes)) => {
-            let bytes = bytes.clone()?;
-            let numbers = Items::from_slice(alloc, &[0])?;
-            let mut cont = bare(alloc, event, Stage::WriteStream);
-            cont.bytes = bytes;
-            cont.numbers = numbers;
-            Ok(Step::Asks(cont))
-        }
-        (Stage::ReadMemory, Reply::BadAddress | Reply::NoAccess) => {
-            Ok(Step::Asks(finishing(alloc, event, error(EFAULT))))
-        }
-        (Stage::WriteStream, Reply::Count(count)) => {
-            Ok(Step::Asks(finishing(alloc, event, *count)))
-        }
-        _ => Ok(Step::Ends),
-    }
+    let rest = Items::from_slice(alloc, items_from(cont.handles.as_slice(), 1))?;
+    Ok(closing(alloc, cont.event, rest, cont.numbers))
 }
 
-/// What a service does on a reply.
-fn step_of(alloc: Global, cont: Cont, reply: &Reply) -> Result<Step, Memory>
+/// The bytes that are to be written are read.
+fn buffer_read(alloc: Global, cont: Cont, bytes: Items<u8>) -> Result<Cont, AllocError>
+    ensures { IfOk result (λ next.
+        next ≡ record (spec.bare cont Stage.WriteStream) { bytes = bytes; numbers = 0 ∷ [] }) }
+{
+    let numbers = Items::from_slice(alloc, &[0])?;
+    let mut next = bare(alloc, cont.event, Stage::WriteStream);
+    next.bytes = bytes;
+    next.numbers = numbers;
+    Ok(next)
+}
+
+/// What a service does on a reply: one row for each stage. It keeps the reply's bytes where it needs them.
+fn step_of(alloc: Global, cont: Cont, reply: Reply) -> Result<Step, Memory>
     requires { KeptAt cont cont.stage }
-    ensures value { IfOk result (λ step. step ≡ spec.next cont cont.stage reply.now) }
-    ensures small { OnOk result (cont.stage ≡ Stage.ProgramLength → IsLengthSmall reply.now) }
+    ensures value { IfOk result (λ step. step ≡ spec.next cont cont.stage reply) }
+    ensures small { OnOk result (cont.stage ≡ Stage.ProgramLength → IsLengthSmall reply) }
 {
-    match cont.stage {
-        Stage::SetContext
-        | Stage::Resume
-        | Stage::CloseHandles
-        | Stage::ExitProcess
-        | Stage::ReadMemory
-        | Stage::WriteStream => service_step(alloc, cont, reply),
-        _ => start_step(alloc, cont, reply),
+    match (cont.stage, reply) {
+        (Stage::SetContext, Reply::Done) => Ok(Asks(resuming(cont))),
+        (Stage::CloseHandles, Reply::Done) => Ok(Asks(handle_closed(alloc, cont)?)),
+        (Stage::ReadBuffer, Reply::Bytes(bytes)) => Ok(Asks(buffer_read(alloc, cont, bytes)?)),
+        (Stage::ReadBuffer, Reply::BadAddress | Reply::NoAccess) => {
+            Ok(Asks(finishing(alloc, cont.event, error(EFAULT))))
+        }
+        (Stage::WriteStream, Reply::Count(count)) => Ok(Asks(finishing(alloc, cont.event, count))),
+        (Stage::Configure, Reply::Done) => Ok(Asks(with_handles(
+            alloc,
+            cont,
+            Stage::OpenConsole,
+            Items::new(alloc),
+        ))),
+        (Stage::OpenConsole, Reply::Handle(handle)) => Ok(Asks(end_opened(alloc, cont, handle)?)),
+        (Stage::OpenProgram, reply) => Ok(program_opened(alloc, cont, &reply)?),
+        (Stage::ProgramLength, reply) => Ok(length_told(alloc, cont, &reply)?),
+        (Stage::ReadProgram, Reply::Bytes(bytes)) => Ok(Asks(piece_read(alloc, cont, &bytes)?)),
+        (Stage::CloseProgram, Reply::Done) => Ok(program_read(alloc, cont)?),
+        (Stage::CreateProcess, Reply::Handle(handle)) => Ok(Asks(child_made(alloc, cont, handle)?)),
+        (Stage::AllocateRun, Reply::Done) => Ok(Asks(run_allocated(alloc, cont)?)),
+        (Stage::WriteRun, Reply::Done) => Ok(Asks(piece_written(alloc, cont)?)),
+        (Stage::ProtectRun, Reply::Done) => Ok(Asks(at_stage(alloc, cont, Stage::AllocateStack))),
+        (Stage::AllocateStack, Reply::Done) => Ok(Asks(at_stage(alloc, cont, Stage::WriteBlock))),
+        (Stage::WriteBlock, Reply::Done) => Ok(Asks(at_stage(alloc, cont, Stage::CreateThread))),
+        (Stage::CreateThread, Reply::Handle(handle)) => Ok(Asks(thread_made(alloc, cont, handle)?)),
+        (Stage::CreateEvent, Reply::Handle(handle)) => Ok(Asks(event_made(alloc, cont, handle)?)),
+        (Stage::StartThread, Reply::Done) => Ok(Stops(Boot::Up)),
+        _ => Ok(Ends),
     }
 }
 
@@ -202,16 +206,16 @@ fn take_step(os: &mut LibOs, step: Step)
 
 /// Takes the reply to the pending call, a stage at a time.
 #[tactic(auto, using(crate::proofs::Steps::step_rules))]
-fn take_reply(os: &mut LibOs, alloc: Global, reply: &Reply) -> Result<(), Memory>
+fn take_reply(os: &mut LibOs, alloc: Global, reply: Reply) -> Result<(), Memory>
     requires { IsKept os.old }
-    ensures value { OnOk result (os.new ≡ spec.answered os.old reply.now) }
+    ensures value { OnOk result (os.new ≡ spec.answered os.old reply) }
     ensures small { OnOk result (IfSome os.old.cont
-        (λ c. c.stage ≡ Stage.ProgramLength → IsLengthSmall reply.now)) }
+        (λ c. c.stage ≡ Stage.ProgramLength → IsLengthSmall reply)) }
 {
     let Some(cont) = os.cont.take() else {
         return Ok(());
     };
-    let change = change_of(alloc, &cont, reply)?;
+    let change = change_of(alloc, &cont, &reply)?;
     let step = step_of(alloc, cont, reply)?;
     change_records(os, alloc, change)?;
     take_step(os, step);
@@ -223,10 +227,10 @@ fn take_reply(os: &mut LibOs, alloc: Global, reply: &Reply) -> Result<(), Memory
 ///
 /// # Errors
 /// There was no memory.
-pub fn answered(os: &mut LibOs, alloc: Global, reply: &Reply) -> Result<(), Memory>
+pub fn answered(os: &mut LibOs, alloc: Global, reply: Reply) -> Result<(), Memory>
     requires { IsKept os.old }
-    ensures value { OnOk result (os.new ≡ spec.answered os.old reply.now) }
-    ensures kept { OnOk result (KeepsMeaning os.old reply.now os.new) }
+    ensures value { OnOk result (os.new ≡ spec.answered os.old reply) }
+    ensures kept { OnOk result (KeepsMeaning os.old reply os.new) }
     ensures nearer { OnOk result (0 < calls_left os.old → calls_left os.new < calls_left os.old) }
 {
     take_reply(os, alloc, reply)

@@ -1,10 +1,10 @@
-ghost use Rattle.std.specs.Prelude.{◌≡◌, ◌^◌, ◌<◌, ◌≤◌, IfOk, length, drop, false, true, take, nat_le, ◌∷◌, replicate};
+ghost use Rattle.std.specs.Prelude.{◌≡◌, ◌^◌, ◌<◌, ◌≤◌, IfOk, length, drop, true, take, nat_le, ◌∷◌, replicate};
 ghost use Rattle.std.specs.List.{list_all};
 ghost use Rattle.mono_model.specs.Starting.{stack_pointer};
 ghost use Rattle.libos_state.specs.declared.state.LibOs.{LibOs};
 ghost use Rattle.libos_state.specs.Pending as spec;
 ghost use Rattle.libos_state.specs.Kept.{KeptAt};
-ghost use Rattle.libos_calls.specs.Families.{is_service, is_reading, is_filling};
+ghost use Rattle.libos_state.specs.declared.cont.Cont.{Cont};
 ghost use Rattle.mono_model.specs.Program.{page_bytes};
 
 use crate::block::{block, block_address};
@@ -96,118 +96,160 @@ fn first_context(args: &[Items<u8>]) -> Context
     Context { pc: ENTRY, x }
 }
 
-/// The call of a stage up to the program's loading.
-fn asked_reading(os: &LibOs, alloc: Global, cont: &Cont) -> Result<Call, Memory>
-    requires { is_reading cont.now.stage ≡ true }
-    ensures { IfOk result (λ call. call ≡ spec.asked os.now cont.now cont.now.stage) }
+/// The file of the program, or the process that is made.
+fn file_or_child(cont: &Cont) -> u64
+    ensures { result ≡ spec.file_or_child cont.now }
 {
-    let file = number_at(cont.handles.as_slice(), 3);
-    match cont.stage {
-        Stage::Configure => {
-            let settings = os.settings.clone()?;
-            Ok(Call::Configure {
-                settings,
-                positions: NO_POSITIONS,
-            })
-        }
-        Stage::OpenConsole => Ok(Call::StreamOpen {
-            name: console_name(cont.handles.len()),
-            create: false,
-            exclusive: false,
-        }),
-        Stage::OpenProgram => {
-            let name = Items::from_slice(alloc, program_name(cont))?;
-            Ok(Call::StreamOpen {
-                name: StreamName::File(name),
-                create: false,
-                exclusive: false,
-            })
-        }
-        Stage::ProgramLength => Ok(Call::StreamLength { stream: file }),
-        Stage::ReadProgram => {
-            let read = cont.bytes.len() as u64;
-            let length = number_at(cont.numbers.as_slice(), 0);
-            Ok(Call::StreamRead {
-                stream: file,
-                offset: read,
-                count: PIECE.min(length.saturating_sub(read)),
-            })
-        }
-        Stage::CloseProgram => Ok(Call::Close { handle: file }),
-        _ => unreachable!(),
+    number_at(cont.handles.as_slice(), 3)
+}
+
+pub fn configure(os: &LibOs) -> Result<Call, Memory>
+    ensures { IfOk result (λ call. (c : Cont) → c.stage ≡ Stage.Configure
+        → call ≡ spec.asked os.now c c.stage) }
+{
+    let settings = os.settings.clone()?;
+    Ok(Call::Configure {
+        settings,
+        positions: NO_POSITIONS,
+    })
+}
+
+pub fn open_console(cont: &Cont) -> Call
+    requires { cont.now.stage ≡ Stage.OpenConsole }
+    ensures { (os : LibOs) → result ≡ spec.asked os cont.now cont.now.stage }
+{
+    Call::StreamOpen {
+        name: console_name(cont.handles.len()),
+        create: false,
+        exclusive: false,
     }
 }
 
-/// The call of a stage that makes the process's memory.
-fn asked_filling(alloc: Global, process: u64, cont: &Cont) -> Result<Call, Memory>
-    requires kept { KeptAt cont.now cont.now.stage }
-    requires stage { is_filling cont.now.stage ≡ true }
-    requires process { process ≡ spec.file_or_child cont.now }
+pub fn open_program(alloc: Global, cont: &Cont) -> Result<Call, Memory>
+    requires { cont.now.stage ≡ Stage.OpenProgram }
     ensures { IfOk result (λ call. (os : LibOs) → call ≡ spec.asked os cont.now cont.now.stage) }
 {
-    match cont.stage {
-        Stage::AllocateRun => Ok(Call::MemoryAllocate {
-            process,
-            page: RUN_PAGE,
-            count: count_of_pages(cont.bytes.as_slice()),
-            rights: READ_WRITE,
-        }),
-        Stage::WriteRun => {
-            let written = number_at(cont.numbers.as_slice(), 1);
-            let bytes = run_piece(alloc, cont.bytes.as_slice(), written)?;
-            Ok(Call::MemoryWrite {
-                process,
-                address: RUN_ADDRESS + written,
-                bytes,
-            })
-        }
-        Stage::ProtectRun => Ok(Call::MemoryProtect {
-            process,
-            page: RUN_PAGE,
-            count: count_of_pages(cont.bytes.as_slice()),
-            rights: RUN_RIGHTS,
-        }),
-        Stage::AllocateStack => Ok(Call::MemoryAllocate {
-            process,
-            page: STACK_PAGE,
-            count: STACK_PAGES,
-            rights: READ_WRITE,
-        }),
-        Stage::WriteBlock => {
-            let args = arguments(cont);
-            let bytes = block(alloc, args)?;
-            Ok(Call::MemoryWrite {
-                process,
-                address: block_address(args),
-                bytes,
-            })
-        }
-        _ => unreachable!(),
+    let name = Items::from_slice(alloc, program_name(cont))?;
+    Ok(Call::StreamOpen {
+        name: StreamName::File(name),
+        create: false,
+        exclusive: false,
+    })
+}
+
+pub fn program_length(cont: &Cont) -> Call
+    requires { cont.now.stage ≡ Stage.ProgramLength }
+    ensures { (os : LibOs) → result ≡ spec.asked os cont.now cont.now.stage }
+{
+    Call::StreamLength {
+        stream: file_or_child(cont),
     }
 }
 
-/// The call of a stage that starts a run.
-pub fn asked_start(os: &LibOs, alloc: Global, cont: &Cont) -> Result<Call, Memory>
-    requires kept { KeptAt cont.now cont.now.stage }
-    requires stage { is_service cont.now.stage ≡ false }
-    ensures { IfOk result (λ call. call ≡ spec.asked os.now cont.now cont.now.stage) }
+pub fn read_program(cont: &Cont) -> Call
+    requires { cont.now.stage ≡ Stage.ReadProgram }
+    ensures { (os : LibOs) → result ≡ spec.asked os cont.now cont.now.stage }
 {
-    let process = number_at(cont.handles.as_slice(), 3);
-    match cont.stage {
-        Stage::CreateProcess => Ok(Call::ProcessCreate),
-        Stage::AllocateRun
-        | Stage::WriteRun
-        | Stage::ProtectRun
-        | Stage::AllocateStack
-        | Stage::WriteBlock => asked_filling(alloc, process, cont),
-        Stage::CreateThread => Ok(Call::ThreadCreate {
-            process,
-            context: first_context(arguments(cont)),
-        }),
-        Stage::CreateEvent => Ok(Call::EventCreate),
-        Stage::StartThread => Ok(Call::ThreadResume {
-            thread: number_at(cont.handles.as_slice(), 4),
-        }),
-        _ => asked_reading(os, alloc, cont),
+    let read = cont.bytes.len() as u64;
+    let length = number_at(cont.numbers.as_slice(), 0);
+    Call::StreamRead {
+        stream: file_or_child(cont),
+        offset: read,
+        count: PIECE.min(length.saturating_sub(read)),
+    }
+}
+
+pub fn close_program(cont: &Cont) -> Call
+    requires { cont.now.stage ≡ Stage.CloseProgram }
+    ensures { (os : LibOs) → result ≡ spec.asked os cont.now cont.now.stage }
+{
+    Call::Close {
+        handle: file_or_child(cont),
+    }
+}
+
+pub fn allocate_run(cont: &Cont) -> Call
+    requires kept { KeptAt cont.now cont.now.stage }
+    requires stage { cont.now.stage ≡ Stage.AllocateRun }
+    ensures { (os : LibOs) → result ≡ spec.asked os cont.now cont.now.stage }
+{
+    Call::MemoryAllocate {
+        process: file_or_child(cont),
+        page: RUN_PAGE,
+        count: count_of_pages(cont.bytes.as_slice()),
+        rights: READ_WRITE,
+    }
+}
+
+pub fn write_run(alloc: Global, cont: &Cont) -> Result<Call, Memory>
+    requires kept { KeptAt cont.now cont.now.stage }
+    requires stage { cont.now.stage ≡ Stage.WriteRun }
+    ensures { IfOk result (λ call. (os : LibOs) → call ≡ spec.asked os cont.now cont.now.stage) }
+{
+    let written = number_at(cont.numbers.as_slice(), 1);
+    let bytes = run_piece(alloc, cont.bytes.as_slice(), written)?;
+    Ok(Call::MemoryWrite {
+        process: file_or_child(cont),
+        address: RUN_ADDRESS + written,
+        bytes,
+    })
+}
+
+pub fn protect_run(cont: &Cont) -> Call
+    requires kept { KeptAt cont.now cont.now.stage }
+    requires stage { cont.now.stage ≡ Stage.ProtectRun }
+    ensures { (os : LibOs) → result ≡ spec.asked os cont.now cont.now.stage }
+{
+    Call::MemoryProtect {
+        process: file_or_child(cont),
+        page: RUN_PAGE,
+        count: count_of_pages(cont.bytes.as_slice()),
+        rights: RUN_RIGHTS,
+    }
+}
+
+pub fn allocate_stack(cont: &Cont) -> Call
+    requires { cont.now.stage ≡ Stage.AllocateStack }
+    ensures { (os : LibOs) → result ≡ spec.asked os cont.now cont.now.stage }
+{
+    Call::MemoryAllocate {
+        process: file_or_child(cont),
+        page: STACK_PAGE,
+        count: STACK_PAGES,
+        rights: READ_WRITE,
+    }
+}
+
+pub fn write_block(alloc: Global, cont: &Cont) -> Result<Call, Memory>
+    requires kept { KeptAt cont.now cont.now.stage }
+    requires stage { cont.now.stage ≡ Stage.WriteBlock }
+    ensures { IfOk result (λ call. (os : LibOs) → call ≡ spec.asked os cont.now cont.now.stage) }
+{
+    let args = arguments(cont);
+    let bytes = block(alloc, args)?;
+    Ok(Call::MemoryWrite {
+        process: file_or_child(cont),
+        address: block_address(args),
+        bytes,
+    })
+}
+
+pub fn create_thread(cont: &Cont) -> Call
+    requires kept { KeptAt cont.now cont.now.stage }
+    requires stage { cont.now.stage ≡ Stage.CreateThread }
+    ensures { (os : LibOs) → result ≡ spec.asked os cont.now cont.now.stage }
+{
+    Call::ThreadCreate {
+        process: file_or_child(cont),
+        context: first_context(arguments(cont)),
+    }
+}
+
+pub fn start_thread(cont: &Cont) -> Call
+    requires { cont.now.stage ≡ Stage.StartThread }
+    ensures { (os : LibOs) → result ≡ spec.asked os cont.now cont.now.stage }
+{
+    Call::ThreadResume {
+        thread: number_at(cont.handles.as_slice(), 4),
     }
 }

@@ -1,17 +1,15 @@
-ghost use Rattle.std.specs.Prelude.{◌≡◌, ◌+◌, IfOk, OnOk, true, false, [], ◌∷◌, ◌++◌, length};
-ghost use Rattle.mono_model.specs.Program.{is_plain};
+ghost use Rattle.std.specs.Prelude.{◌≡◌, ◌+◌, IfOk, OnOk, [], ◌∷◌, ◌++◌, length};
+ghost use Rattle.mono_model.specs.Program.{program_of};
 ghost use Rattle.libos_state.specs.Pending.{number, run_in, run_piece};
 ghost use Rattle.libos_state.specs.declared.cont.Cont.{Cont};
 ghost use Rattle.libos_state.specs.Answered as spec;
 ghost use Rattle.libos_state.specs.Kept.{IsWriting, KeptAt};
-ghost use Rattle.libos_calls.specs.Families.{is_service, is_opening, is_making};
 ghost use Rattle.libos_calls.specs.Left.{IsLengthSmall};
 
 use crate::calls::PIECE;
 use crate::kept::{first_items, number_at};
 use crate::program::{count_of_pages, is_program};
 use abi_calls::Reply;
-use bas_edge::Memory;
 use bas_items::Items;
 use libos_state::{
     Boot, Change, Cont, Description, DescriptorNote, Kind, ProcessNote, ProgramRefusal, Stage,
@@ -30,36 +28,6 @@ const READ: u8 = 1;
 
 const WRITE: u8 = 2;
 
-/// A start that goes on at a stage and keeps these.
-fn starting(
-    cont: Cont,
-    stage: Stage,
-    bytes: Items<u8>,
-    handles: Items<u64>,
-    numbers: Items<u64>,
-) -> Cont
-    ensures { result ≡ spec.starting cont stage bytes handles numbers }
-{
-    let Cont {
-        event,
-        stage: _,
-        next,
-        names,
-        bytes: _,
-        handles: _,
-        numbers: _,
-    } = cont;
-    Cont {
-        event,
-        stage,
-        next,
-        names,
-        bytes,
-        handles,
-        numbers,
-    }
-}
-
 /// The handles with one more.
 fn with_handle(alloc: Global, handles: &[u64], handle: u64) -> Result<Items<u64>, AllocError>
     ensures { IfOk result (λ longer. longer ≡ handles.now ++ handle ∷ []) }
@@ -70,14 +38,18 @@ fn with_handle(alloc: Global, handles: &[u64], handle: u64) -> Result<Items<u64>
 }
 
 /// A start that keeps these handles and nothing else.
-fn with_handles(alloc: Global, cont: Cont, stage: Stage, handles: Items<u64>) -> Cont
+pub fn with_handles(alloc: Global, mut cont: Cont, stage: Stage, handles: Items<u64>) -> Cont
     ensures { result ≡ spec.starting cont stage [] handles [] }
 {
-    starting(cont, stage, Items::new(alloc), handles, Items::new(alloc))
+    cont.stage = stage;
+    cont.bytes = Items::new(alloc);
+    cont.handles = handles;
+    cont.numbers = Items::new(alloc);
+    cont
 }
 
 /// A start that keeps its bytes and handles.
-fn at_stage(alloc: Global, mut cont: Cont, stage: Stage) -> Cont
+pub fn at_stage(alloc: Global, mut cont: Cont, stage: Stage) -> Cont
     ensures { result ≡ spec.starting cont stage cont.bytes cont.handles [] }
 {
     cont.stage = stage;
@@ -86,7 +58,7 @@ fn at_stage(alloc: Global, mut cont: Cont, stage: Stage) -> Cont
 }
 
 /// The next end of the console is open.
-fn console_opened(alloc: Global, cont: Cont, handle: u64) -> Result<Cont, AllocError>
+pub fn end_opened(alloc: Global, cont: Cont, handle: u64) -> Result<Cont, AllocError>
     ensures { IfOk result (λ next. next ≡ spec.start_opening cont (cont.handles ++ handle ∷ [])) }
 {
     let handles = with_handle(alloc, cont.handles.as_slice(), handle)?;
@@ -110,14 +82,14 @@ fn length_known(alloc: Global, mut cont: Cont, length: u64) -> Result<Cont, Allo
 }
 
 /// More of the program was read.
-fn piece_read(alloc: Global, mut cont: Cont, piece: &[u8]) -> Result<Cont, AllocError>
+pub fn piece_read(alloc: Global, mut cont: Cont, piece: &Items<u8>) -> Result<Cont, AllocError>
     requires { cont.stage ≡ Stage.ReadProgram }
     ensures { IfOk result (λ next. next ≡ spec.start_with_piece cont piece.now) }
 {
     if piece.is_empty() {
         return Ok(at_stage(alloc, cont, Stage::CloseProgram));
     }
-    cont.bytes.extend_from_slice(piece)?;
+    cont.bytes.extend_from_slice(piece.as_slice())?;
     if number_at(cont.numbers.as_slice(), 0) <= cont.bytes.len() as u64 {
         return Ok(at_stage(alloc, cont, Stage::CloseProgram));
     }
@@ -139,8 +111,47 @@ fn written_to(alloc: Global, mut cont: Cont, written: u64, size: u64) -> Result<
     Ok(cont)
 }
 
+/// The process is made, whose memory gets the program's run.
+pub fn child_made(alloc: Global, mut cont: Cont, handle: u64) -> Result<Cont, AllocError>
+    ensures { IfOk result (λ next. next
+        ≡ spec.starting cont Stage.AllocateRun cont.bytes (cont.handles ++ handle ∷ []) (0 ∷ [])) }
+{
+    cont.handles = with_handle(alloc, cont.handles.as_slice(), handle)?;
+    cont.numbers = Items::from_slice(alloc, &[0])?;
+    cont.stage = Stage::AllocateRun;
+    Ok(cont)
+}
+
+/// The run has its pages, of which none is written.
+pub fn run_allocated(alloc: Global, mut cont: Cont) -> Result<Cont, AllocError>
+    ensures { IfOk result (λ next.
+        next ≡ spec.starting cont Stage.WriteRun cont.bytes cont.handles (0 ∷ 0 ∷ [])) }
+{
+    cont.numbers = Items::from_slice(alloc, &[0, 0])?;
+    cont.stage = Stage::WriteRun;
+    Ok(cont)
+}
+
+/// The thread is made.
+pub fn thread_made(alloc: Global, mut cont: Cont, handle: u64) -> Result<Cont, AllocError>
+    ensures { IfOk result (λ next. next
+        ≡ spec.starting cont Stage.CreateEvent cont.bytes (cont.handles ++ handle ∷ []) []) }
+{
+    cont.handles = with_handle(alloc, cont.handles.as_slice(), handle)?;
+    Ok(at_stage(alloc, cont, Stage::CreateEvent))
+}
+
+/// The thread's event is made.
+pub fn event_made(alloc: Global, mut cont: Cont, handle: u64) -> Result<Cont, AllocError>
+    ensures { IfOk result (λ next. next
+        ≡ spec.starting cont Stage.StartThread cont.bytes (cont.handles ++ handle ∷ []) []) }
+{
+    cont.handles = with_handle(alloc, cont.handles.as_slice(), handle)?;
+    Ok(at_stage(alloc, cont, Stage::StartThread))
+}
+
 /// A piece of the program's run is written.
-fn piece_written(alloc: Global, cont: Cont) -> Result<Cont, AllocError>
+pub fn piece_written(alloc: Global, cont: Cont) -> Result<Cont, AllocError>
     requires stage { cont.stage ≡ Stage.WriteRun }
     requires kept { IsWriting cont }
     ensures { IfOk result (λ next.
@@ -231,73 +242,9 @@ pub fn change_of(alloc: Global, cont: &Cont, reply: &Reply) -> Result<Change, Al
     }
 }
 
-/// What a start does on a reply where it opens or reads.
-fn reading_step(alloc: Global, cont: Cont, reply: &Reply) -> Result<Step, AllocError>
-    requires { is_opening cont.stage ≡ true }
-    ensures { IfOk result (λ step. step ≡ spec.next cont cont.stage reply.now) }
-{
-    match (cont.stage, reply) {
-        (Stage::Configure, Reply::Done) => {
-            Ok(Step::Asks(with_handles(alloc, cont, Stage::OpenConsole, Items::new(alloc))))
-        }
-        (Stage::OpenConsole, Reply::Handle(handle)) => {
-            let next = console_opened(alloc, cont, *handle)?;
-            Ok(Step::Asks(next))
-        }
-        (Stage::ReadProgram, Reply::Bytes(bytes)) => {
-            let next = piece_read(alloc, cont, bytes.as_slice())?;
-            Ok(Step::Asks(next))
-        }
-        _ => Ok(Step::Ends),
-    }
-}
-
-/// What a start does on a reply once the program is loaded.
-fn making_step(alloc: Global, mut cont: Cont, reply: &Reply) -> Result<Step, AllocError>
-    requires kept { KeptAt cont cont.stage }
-    requires stage { is_making cont.stage ≡ true }
-    ensures { IfOk result (λ step. step ≡ spec.next cont cont.stage reply.now) }
-{
-    match (cont.stage, reply) {
-        (Stage::CreateProcess, Reply::Handle(handle)) => {
-            cont.handles = with_handle(alloc, cont.handles.as_slice(), *handle)?;
-            cont.numbers = Items::from_slice(alloc, &[0])?;
-            cont.stage = Stage::AllocateRun;
-            Ok(Step::Asks(cont))
-        }
-        (Stage::AllocateRun, Reply::Done) => {
-            cont.numbers = Items::from_slice(alloc, &[0, 0])?;
-            cont.stage = Stage::WriteRun;
-            Ok(Step::Asks(cont))
-        }
-        (Stage::WriteRun, Reply::Done) => {
-            let next = piece_written(alloc, cont)?;
-            Ok(Step::Asks(next))
-        }
-        (Stage::ProtectRun, Reply::Done) => {
-            Ok(Step::Asks(at_stage(alloc, cont, Stage::AllocateStack)))
-        }
-        (Stage::AllocateStack, Reply::Done) => {
-            Ok(Step::Asks(at_stage(alloc, cont, Stage::WriteBlock)))
-        }
-        (Stage::WriteBlock, Reply::Done) => {
-            Ok(Step::Asks(at_stage(alloc, cont, Stage::CreateThread)))
-        }
-        (Stage::CreateThread, Reply::Handle(handle)) => {
-            cont.handles = with_handle(alloc, cont.handles.as_slice(), *handle)?;
-            Ok(Step::Asks(at_stage(alloc, cont, Stage::CreateEvent)))
-        }
-        (Stage::CreateEvent, Reply::Handle(handle)) => {
-            cont.handles = with_handle(alloc, cont.handles.as_slice(), *handle)?;
-            Ok(Step::Asks(at_stage(alloc, cont, Stage::StartThread)))
-        }
-        _ => Ok(Step::Ends),
-    }
-}
-
-/// What a start does where the program's file is closed: its bytes are a program, or it stops.
-fn loading_step(alloc: Global, mut cont: Cont) -> Result<Step, AllocError>
-    ensures { IfOk result (λ step. step ≡ spec.load_step cont (is_plain cont.bytes)) }
+/// What the start does with the bytes of the closed file: they are a program, or it stops.
+pub fn program_read(alloc: Global, mut cont: Cont) -> Result<Step, AllocError>
+    ensures { IfOk result (λ step. step ≡ spec.load_step cont (program_of cont.bytes)) }
 {
     if !is_program(alloc, cont.bytes.as_slice())? {
         return Ok(Step::Stops(Boot::BadProgram(ProgramRefusal::Later)));
@@ -306,8 +253,8 @@ fn loading_step(alloc: Global, mut cont: Cont) -> Result<Step, AllocError>
     Ok(Step::Asks(at_stage(alloc, cont, Stage::CreateProcess)))
 }
 
-/// What a start does where the program's file is open, or can't be opened.
-fn opening_step(alloc: Global, cont: Cont, reply: &Reply) -> Result<Step, AllocError>
+/// What the start does where the program's file is open, or can't be opened.
+pub fn program_opened(alloc: Global, cont: Cont, reply: &Reply) -> Result<Step, AllocError>
     ensures { IfOk result (λ step. step ≡ spec.next cont Stage.OpenProgram reply.now) }
 {
     let Reply::Handle(handle) = reply else {
@@ -317,8 +264,8 @@ fn opening_step(alloc: Global, cont: Cont, reply: &Reply) -> Result<Step, AllocE
     Ok(Step::Asks(with_handles(alloc, cont, Stage::ProgramLength, handles)))
 }
 
-/// What a start does where the program's length is known.
-fn length_step(alloc: Global, cont: Cont, reply: &Reply) -> Result<Step, AllocError>
+/// What the start does where the program's length is known.
+pub fn length_told(alloc: Global, cont: Cont, reply: &Reply) -> Result<Step, AllocError>
     ensures value { IfOk result (λ step. step ≡ spec.next cont Stage.ProgramLength reply.now) }
     ensures small { OnOk result (IsLengthSmall reply.now) }
 {
@@ -327,42 +274,4 @@ fn length_step(alloc: Global, cont: Cont, reply: &Reply) -> Result<Step, AllocEr
     };
     let next = length_known(alloc, cont, *length)?;
     Ok(Step::Asks(next))
-}
-
-/// What a start does on a reply.
-pub fn start_step(alloc: Global, cont: Cont, reply: &Reply) -> Result<Step, Memory>
-    requires stage { is_service cont.stage ≡ false }
-    requires kept { KeptAt cont cont.stage }
-    ensures value { IfOk result (λ step. step ≡ spec.next cont cont.stage reply.now) }
-    ensures small { OnOk result (cont.stage ≡ Stage.ProgramLength → IsLengthSmall reply.now) }
-{
-    match cont.stage {
-        Stage::OpenProgram => {
-            let step = opening_step(alloc, cont, reply)?;
-            Ok(step)
-        }
-        Stage::CloseProgram => match reply {
-            Reply::Done => {
-                let step = loading_step(alloc, cont)?;
-                Ok(step)
-            }
-            _ => Ok(Step::Ends),
-        },
-        Stage::StartThread => match reply {
-            Reply::Done => Ok(Step::Stops(Boot::Up)),
-            _ => Ok(Step::Ends),
-        },
-        Stage::ProgramLength => {
-            let step = length_step(alloc, cont, reply)?;
-            Ok(step)
-        }
-        Stage::Configure | Stage::OpenConsole | Stage::ReadProgram => {
-            let step = reading_step(alloc, cont, reply)?;
-            Ok(step)
-        }
-        _ => {
-            let step = making_step(alloc, cont, reply)?;
-            Ok(step)
-        }
-    }
 }

@@ -1,34 +1,96 @@
 -- What the stages owe, collected: the answered library OS keeps what it stands for.
-use Rattle.std.specs.Prelude.{◌≡◌}
+use Rattle.std.specs.Prelude.{◌≡◌, true, false}
 use Rattle.std.specs.declared.option.Option.{Option}
 use Rattle.std.specs.declared.option.Option.TheVariants.{None, Some}
-use Rattle.std.proofs.Common.{subst}
+use Rattle.std.proofs.Common.{refl, subst, ◌∙◌}
 use Rattle.abi_calls.specs.declared.call.Call.{Call}
 use Rattle.abi_calls.specs.declared.reply.Reply.{Reply}
+use Rattle.abi_calls.specs.declared.reply.Reply.TheVariants.{Done, Bytes, Count, BadAddress, NoAccess}
 use Rattle.abi_calls.specs.World.{World}
 use Rattle.abi_calls.specs.Abi.{Abi}
 use Rattle.abi_calls.specs.Sound.{IsSound}
 use Rattle.libos_state.specs.declared.cont.Cont.{Cont}
 use Rattle.libos_state.specs.declared.cont.Stage.{Stage}
+use Rattle.libos_state.specs.declared.cont.Stage.TheVariants.{SetContext, Resume, CloseHandles, ExitProcess, ReadBuffer, WriteStream}
+use Rattle.libos_state.specs.declared.state.Boot.TheVariants.{Going, Up}
 use Rattle.libos_state.specs.declared.state.LibOs.{LibOs}
+use Rattle.libos_state.specs.Records.{visible}
 use Rattle.libos_state.specs.Pending.{asked, asked_by}
-use Rattle.libos_state.specs.Answered.{answered, answered_in}
+use Rattle.libos_state.specs.Answered.{answered, answered_at, answered_in}
 use Rattle.libos_state.specs.Meaning.{meaning, meant}
-use Rattle.libos_state.specs.Fits.{Fits, FitsStage, FitsCont}
-use Rattle.libos_state.specs.Laws.{KeepsMeaning}
-use Rattle.libos_state.proofs.Holds.{Holds}
+use Rattle.libos_state.specs.Fits.{Fits, FitsStage, FitsCont, is_of_start}
+use Rattle.libos_state.specs.Laws.{Keeps, KeepsMeaning}
+use Rattle.libos_state.proofs.Holds.{Holds, HoldsQuietly}
+use Rattle.libos_state.proofs.Serving.{trap_of}
+use Rattle.libos_state.proofs.Starts.{start_of}
+
+-- What goes on with a service.
+record Goes (os : LibOs) (cont : Option Cont) (w : World) (r : Reply) (w' : World) : Type 0 where
+  pub fits : Fits (answered_in os cont r) w'.objects
+  pub keeps : Keeps w (meant os (visible w) cont) w' (meaning (answered_in os cont r) (visible w'))
+  pub quiet : os.boot ≡ Going → w'.contents ≡ w.contents
+  pub up : os.boot ≡ Up → (answered_in os cont r).boot ≡ Up
+
+-- A service on a trap leaves how far the start is.
+boot_stays : (os : LibOs) (c : Cont) (stage : Stage) (r : Reply) → is_of_start stage ≡ false
+    → (answered_at os c stage r).boot ≡ os.boot
+boot_stays os c SetContext Done other = refl
+boot_stays os c SetContext _ other = refl
+boot_stays os c Resume _ other = refl
+boot_stays os c CloseHandles Done other = refl
+boot_stays os c CloseHandles _ other = refl
+boot_stays os c ExitProcess _ other = refl
+boot_stays os c ReadBuffer (Bytes bytes) other = refl
+boot_stays os c ReadBuffer BadAddress other = refl
+boot_stays os c ReadBuffer NoAccess other = refl
+boot_stays os c ReadBuffer _ other = refl
+boot_stays os c WriteStream (Count n) other = refl
+boot_stays os c WriteStream _ other = refl
+boot_stays os c _ r other = absurd (cc)
 
 -- Each stage gives what it owes.
 pub record StagesHold (os : LibOs) : Type 0 where
-  pub stage : (c : Cont) (stage : Stage) (w w' : World) (r : Reply) → FitsStage os w.objects c stage → IsSound w.objects → Abi w (asked os c stage) r w' → Holds os c stage w r w'
+  pub trap : (c : Cont) (stage : Stage) (w w' : World) (r : Reply) → is_of_start stage ≡ false
+      → FitsStage os w.objects c stage → IsSound w.objects → Abi w (asked os c stage) r w'
+      → Holds os c stage w r w'
+  pub start : (c : Cont) (stage : Stage) (w w' : World) (r : Reply) → is_of_start stage ≡ true
+      → FitsStage os w.objects c stage → IsSound w.objects → Abi w (asked os c stage) r w'
+      → HoldsQuietly os c stage w r w'
 
-kept_in : (os : LibOs) (cont : Option Cont) (r : Reply) → StagesHold os → (w w' : World) (call : Call) → asked_by os cont ≡ Some call → FitsCont os w.objects cont → IsSound w.objects → Abi w call r w' →
-    Fits (answered_in os cont r) w'.objects × (meaning (answered_in os cont r) w' ≡ meant os w cont)
-kept_in os None r hold w w' call asks fits sound abi = absurd (cc)
-kept_in os (Some c) r hold w w' call asks fits sound abi =
-    let same : call ≡ asked os c c.stage = cc in
-    let holds = hold.stage c c.stage w w' r fits sound (subst (λ x. Abi w x r w') same abi) in
-    (holds.fits, holds.means)
+module _ (os : LibOs) (r : Reply) (hold : StagesHold os) (w w' : World) where
+  stage_goes : (c : Cont) → FitsStage os w.objects c c.stage → IsSound w.objects
+      → Abi w (asked os c c.stage) r w' → Goes os (Some c) w r w'
+  stage_goes c fits sound abi = elim (is_of_start c.stage) as (λ b. is_of_start c.stage ≡ b → Goes os (Some c) w r w') [
+    | true ↦ λ starts.
+        let holds = hold.start c c.stage w w' r starts fits sound abi in
+        let going = (start_of os w.objects c c.stage starts fits).going in
+        record {
+          fits = holds.holds.fits;
+          keeps = holds.holds.keeps;
+          quiet = λ _. holds.quiet;
+          up = λ up. absurd (cc);
+        }
+    | false ↦ λ other.
+        let holds = hold.trap c c.stage w w' r other fits sound abi in
+        let up = (trap_of os w.objects c.event c.stage other fits.event).up in
+        record {
+          fits = holds.fits;
+          keeps = holds.keeps;
+          quiet = λ going. absurd (cc);
+          up = λ was. boot_stays os c c.stage r other ∙ was;
+        }
+  ] refl
+
+  cont_goes : (cont : Option Cont) (call : Call) → asked_by os cont ≡ Some call
+      → FitsCont os w.objects cont → IsSound w.objects → Abi w call r w' → Goes os cont w r w'
+  cont_goes None call asks fits sound abi = absurd (cc)
+  cont_goes (Some c) call asks fits sound abi =
+      let same : call ≡ asked os c c.stage = cc in
+      stage_goes c fits sound (subst (λ x. Abi w x r w') same abi)
 
 pub answered_from : (os : LibOs) (r : Reply) → StagesHold os → KeepsMeaning os r (answered os r)
-answered_from os r hold = record { kept = λ w w' call asks fits sound abi. kept_in os os.cont r hold w w' call asks fits sound abi }
+answered_from os r hold = record {
+  kept = λ w w' call asks fits sound abi.
+      let goes = cont_goes os r hold w w' os.cont call asks fits sound abi in
+      record { fits = goes.fits; keeps = goes.keeps; quiet = goes.quiet; up = goes.up };
+}

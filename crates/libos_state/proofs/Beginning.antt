@@ -1,182 +1,211 @@
--- A start begins in a world without objects, and ends when its thread becomes ready: the library OS is up.
-use Rattle.std.specs.Prelude.{◌≡◌, ◌≢◌, ℕ, ◌≤◌, bit_and, Bool, true, false, not, ◌==◌, if◌then◌else◌, nat_le, List, [], ◌∷◌, ◌++◌, length, slice_index, is_some, filter_map}
-use Rattle.std.specs.List.{list_all}
+-- The end of a start: its thread becomes ready, and the library OS is up.
+use Rattle.std.specs.Prelude.{◌≡◌, ℕ, ◌==◌, Bool, true, false, cond, List, [], ◌∷◌, ◌++◌, length, map, filter_map, slice_index, is_some}
+use Rattle.std.specs.List.{list_all, cons_option}
 use Rattle.std.specs.Option.{option_map}
-use Rattle.std.specs.Ordering.{nat_cmp}
-use Rattle.std.specs.FinMap.{get, empty}
+use Rattle.std.specs.FinMap.{empty, insert}
 use Rattle.std.specs.declared.option.Option.{Option}
 use Rattle.std.specs.declared.option.Option.TheVariants.{None, Some}
-use Rattle.std.proofs.Common.{refl, sym, ap, ◌∙◌, subst, arith, eq-eqb, ne_eqb, le-leb}
-use Rattle.std.proofs.lemmas.Bool.{and_from, or_from}
-use Rattle.std.proofs.lemmas.Option.{none-some, same_Some}
-use Rattle.bas_names.specs.declared.StreamName.TheVariants as stream
-use Rattle.turn_sched.specs.Lists.{without, other_than}
-use Rattle.abi_calls.specs.declared.object.Object.TheVariants.{Event, Stream}
+use Rattle.std.proofs.Common.{map-id, refl, sym, ap, ◌∙◌, arith, eq-eqb, ne_eqb}
+use Rattle.std.proofs.lemmas.Bool.{and_from, and_parts, or_left}
+use Rattle.std.proofs.lemmas.List.Folds.{list_all-append}
+use Rattle.turn_sched.specs.Lists.{Waiting, Lists, is_resting, contains, is_at, no_threads, other_than, times, waiting_threads, without_resting}
+use Rattle.turn_sched.proofs.ThreadLists.{times-cons, times-contained}
 use Rattle.abi_calls.specs.declared.reply.Reply.{Reply}
 use Rattle.abi_calls.specs.declared.reply.Reply.TheVariants.{Done}
-use Rattle.abi_calls.specs.declared.settings.Settings.{Settings}
-use Rattle.abi_calls.specs.Objects.{Object, Objects, Live, running, is_process, is_thread}
-use Rattle.abi_calls.specs.World.{World, with_objects}
-use Rattle.abi_calls.specs.Processes.{is_acceptable}
+use Rattle.abi_calls.specs.Objects.{object_at, running, is_thread_of, is_some_thread, with_lists}
+use Rattle.abi_calls.specs.World.{World, with_objects, on_objects}
 use Rattle.abi_calls.specs.Abi.{Abi, answer}
 use Rattle.abi_calls.specs.Sound.{IsSound}
-use Rattle.abi_calls.specs.Fresh.{IsFreshWorld}
-use Rattle.bas_items.proofs.NumberMaps.{get-empty}
-use Rattle.abi_calls.proofs.Facts.{AreEmpty-no_objects}
-use Rattle.abi_calls.proofs.Worked.{resume_suspended}
-use Rattle.mono_model.specs.Starting.{Runs, begun, boot}
+use Rattle.mono_model.specs.Machine.{made_ready}
+use Rattle.mono_model.specs.Starting.{Runs, begun}
 use Rattle.libos_state.specs.declared.cont.Cont.{Cont}
 use Rattle.libos_state.specs.declared.cont.Stage.TheVariants.{StartThread}
-use Rattle.libos_state.specs.declared.notes.Description.{Description}
-use Rattle.libos_state.specs.declared.notes.Kind.TheVariants as kind
+use Rattle.libos_state.specs.declared.notes.Kind.TheVariants.{ConIn, ConOut, ConErr}
 use Rattle.libos_state.specs.declared.notes.ThreadNote.{ThreadNote}
 use Rattle.libos_state.specs.declared.state.LibOs.{LibOs}
-use Rattle.libos_state.specs.Records.{stream_of_kind, tids_of}
+use Rattle.libos_state.specs.Records.{Visible, visible, with_visible, base, tids_of, lists_of, target_of, waiter_of, is_set, thread_with}
 use Rattle.libos_state.specs.Pending.{asked, handle, file_or_child}
-use Rattle.libos_state.specs.Answered.{answered_at, first_process, first_thread}
-use Rattle.libos_state.specs.Entered.{booting}
-use Rattle.libos_state.specs.Meaning.{unstarted, child_memory, child_context}
-use Rattle.libos_state.specs.Fits.{FitsStage, FitsEvent, FitsRecords, IsStream, Opened, Closable, is_closable, NoneLive, passes}
-use Rattle.libos_state.proofs.Holds.{Holds}
-use Rattle.libos_state.proofs.Keeping.{Stands, by_row}
-use Rattle.libos_state.proofs.Resuming.{resumed_objects}
+use Rattle.libos_state.specs.Answered.{answered_at, first_thread}
+use Rattle.libos_state.specs.Meaning.{settles, unstarted, child_memory, child_context}
+use Rattle.libos_state.specs.Named.{Named, AProcess, AThread, AnEvent, AConsole, is_of, recorded, named_as, kinds_at, times_named}
+use Rattle.libos_state.specs.Fits.{FitsStage, FitsObjects, FitsRecords, is_to_name}
+use Rattle.libos_state.proofs.Holds.{HoldsQuietly}
+use Rattle.libos_state.proofs.Rows.{quietly_by_row}
+use Rattle.libos_state.proofs.Naming.{FitsObjects-same, kinds-kept, thread_of, times_named-append}
+use Rattle.libos_state.proofs.Bases.{base-with_ready}
+use Rattle.libos_state.proofs.Resuming.{resumed_objects, row_resumed}
+use Rattle.libos_state.proofs.Handles.{recorded-start}
+use Rattle.libos_state.proofs.Starts.{start_of}
 
--- ---- the start of a run
+-- ---- what is kept is recorded
 
--- A program's name of 1 to 80 bytes, up to 15 further arguments of up to 80 bytes each, and settings that a host takes.
-pub record CanBoot (program : List ℕ) (args : List (List ℕ)) (settings : Settings) : Type 0 where
-  pub named : 1 ≤ length program
-  pub short : length program ≤ 80
-  pub few : length args ≤ 15
-  pub small : list_all (λ arg. nat_le (length arg) 80) args ≡ true
-  pub acceptable : is_acceptable settings ≡ true
+-- The ends of the console, and what the start has made, of six handles.
+abbrev ends_of : List ℕ → List Named
+ends_of hs =
+    (slice_index hs 0, AConsole ConIn) ∷ (slice_index hs 1, AConsole ConOut) ∷
+    (slice_index hs 2, AConsole ConErr) ∷ []
 
-none_in : (test : Object → Bool) (live : Live) → live ≡ empty → NoneLive test live
-none_in test live none = λ q. ap (λ (m : Live). passes test (get {R = nat_cmp} m q)) none ∙ ap (passes test) (get-empty q)
+abbrev made_of : List ℕ → List Named
+made_of hs =
+    (slice_index hs 3, AProcess) ∷ (slice_index hs 4, AThread) ∷ (slice_index hs 5, AnEvent) ∷ []
 
--- In a world where nothing was done the library OS that begins fits, and stands for the machine's start.
-pub boot_fits : (program : List ℕ) (args : List (List ℕ)) (settings : Settings) (w : World) (answered : ℕ) → CanBoot program args settings → IsFreshWorld w.objects answered → IsSound w.objects →
-    Stands (booting program args settings) w (boot settings w.contents (record { name = program; args = program ∷ args }))
-boot_fits program args settings w answered can fresh sound =
-    let lists = AreEmpty-no_objects w.objects sound fresh.live in
-    let few = can.few in
-    record {
-      fits = record {
-        start = record {
-          program = program;
-          args = args;
-          event = refl;
-          going = refl;
-          next_id = refl;
-          processes = refl;
-          threads = refl;
-          descriptions = refl;
-          ready = lists.ready;
-          current = lists.current;
-          names = record { named = can.named; short = can.short; few = omega arith; args = and_from (nat_le (length program) 80) (list_all (λ arg. nat_le (length arg) 80) args) (le-leb (length program) 80 can.short) can.small };
-        };
-        suspended = lists.suspended;
-        settings = can.acceptable;
-        unturned = fresh.turns;
-        no_process = none_in is_process w.objects.live fresh.live;
-        no_thread = none_in is_thread w.objects.live fresh.live;
-      };
-      means = refl;
-    }
+kept_parts : (hs : List ℕ) → length hs ≡ 6
+    → named_as hs (kinds_at StartThread) ≡ ends_of hs ++ made_of hs
+kept_parts [] long = absurd (omega arith)
+kept_parts (a ∷ []) long = absurd (omega arith)
+kept_parts (a ∷ b ∷ []) long = absurd (omega arith)
+kept_parts (a ∷ b ∷ c ∷ []) long = absurd (omega arith)
+kept_parts (a ∷ b ∷ c ∷ d ∷ []) long = absurd (omega arith)
+kept_parts (a ∷ b ∷ c ∷ d ∷ e ∷ []) long = absurd (omega arith)
+kept_parts (a ∷ b ∷ c ∷ d ∷ e ∷ f ∷ []) long = refl
+kept_parts (a ∷ b ∷ c ∷ d ∷ e ∷ f ∷ g ∷ rest) long = absurd (omega arith)
 
--- ---- its end: the thread becomes ready
+module _ (os : LibOs) (c : Cont) (v : Visible) (fits : FitsStage os v.objects c StartThread) where
+  abbrev up : LibOs
+  up = answered_at os c StartThread Done
 
-none_rests : (t : ℕ) (suspended : List ℕ) → suspended ≡ t ∷ [] → without suspended t ≡ []
-none_rests t suspended is = ap (λ ts. without ts t) is ∙ ap (λ b. if not b then t ∷ [] else []) (eq-eqb t t refl)
+  abbrev kept : List Named
+  kept = named_as c.handles (kinds_at StartThread)
 
--- The three ends of the console, by their handles.
-record HasConsole (live : Live) (handles : List ℕ) : Type 0 where
-  pub input : IsStream live stream.ConIn (slice_index handles 0)
-  pub output : IsStream live stream.ConOut (slice_index handles 1)
-  pub errors : IsStream live stream.ConErr (slice_index handles 2)
+  begun_records : FitsRecords up
+  begun_records = record {
+    pids = refl;
+    tids = refl;
+    ids = refl;
+    given_pids = refl;
+    given_tids = refl;
+    processes = refl;
+    threads = refl;
+    described = refl;
+    access = refl;
+  }
 
-console_of : (live : Live) (handles : List ℕ) → 3 ≤ length handles → Opened live handles → HasConsole live handles
-console_of live [] long opened = absurd (omega arith)
-console_of live (a ∷ []) long opened = absurd (omega arith)
-console_of live (a ∷ b ∷ []) long opened = absurd (omega arith)
-console_of live (a ∷ b ∷ c ∷ rest) long opened = record { input = opened.0; output = opened.1; errors = opened.2 }
+  begun_once : (q : ℕ) → times_named q (recorded up ++ [])
+      ≡ cond (is_to_name None (object_at v.objects q)) 1 0
+  begun_once q =
+      let start = start_of os v.objects c StartThread refl fits in
+      let none : recorded os ≡ [] = recorded-start os v.objects StartThread start in
+      let ends : List Named = ends_of c.handles in
+      let made : List Named = made_of c.handles in
+      let turned : times_named q (made ++ ends) ≡ times_named q (ends ++ made) =
+      omega (arith, times_named-append q made ends, times_named-append q ends made) in
+      turned ∙ ap (times_named q) (sym (kept_parts c.handles fits.lists.handles))
+      ∙ ap (λ (r : List Named). times_named q (r ++ kept)) (sym none) ∙ fits.objects.once q
 
--- Handles of different objects are different.
-apart : (live : Live) (a b : ℕ) (x y : Object) → get {R = nat_cmp} live a ≡ Some x → get {R = nat_cmp} live b ≡ Some y → (x ≡ y → ⊥) → (a == b) ≡ false
-apart live a b x y at_a at_b different = ne_eqb a b (λ same. different (same_Some x y (sym at_a ∙ ap (get {R = nat_cmp} live) same ∙ at_b)))
+  begun_kinds : list_all (λ (n : Named). is_of n.1 (object_at v.objects n.0)) (recorded up ++ [])
+      ≡ true
+  begun_kinds =
+      let test : Named → Bool = λ n. is_of n.1 (object_at v.objects n.0) in
+      let ends : List Named = ends_of c.handles in
+      let made : List Named = made_of c.handles in
+      let all : list_all test (ends ++ made) ≡ true =
+      ap (list_all test) (sym (kept_parts c.handles fits.lists.handles))
+      ∙ kinds-kept os v.objects kept None fits.objects in
+      let parts = and_parts (list_all test ends) (list_all test made)
+      (sym (list_all-append test ends made) ∙ all) in
+      list_all-append test made ends ∙ and_from (list_all test made) (list_all test ends) parts.1 parts.0
 
-console_closable : (live : Live) (handles : List ℕ) (e : ℕ) (set : Bool) → HasConsole live handles → get {R = nat_cmp} live e ≡ Some (Event set) →
-    Closable live (slice_index handles 0 ∷ slice_index handles 1 ∷ slice_index handles 2 ∷ e ∷ [])
-console_closable live handles e set console event =
-    let i = slice_index handles 0 in
-    let o = slice_index handles 1 in
-    let r = slice_index handles 2 in
-    let oi : (o == i) ≡ false = apart live o i (Stream stream.ConOut) (Stream stream.ConIn) console.output console.input (λ same. absurd (cc)) in
-    let ri : (r == i) ≡ false = apart live r i (Stream stream.ConErr) (Stream stream.ConIn) console.errors console.input (λ same. absurd (cc)) in
-    let ei : (e == i) ≡ false = apart live e i (Event set) (Stream stream.ConIn) event console.input (λ same. absurd (cc)) in
-    let ro : (r == o) ≡ false = apart live r o (Stream stream.ConErr) (Stream stream.ConOut) console.errors console.output (λ same. absurd (cc)) in
-    let eo : (e == o) ≡ false = apart live e o (Event set) (Stream stream.ConOut) event console.output (λ same. absurd (cc)) in
-    let er : (e == r) ≡ false = apart live e r (Event set) (Stream stream.ConErr) event console.errors (λ same. absurd (cc)) in (
-      ap is_closable console.input,
-      or_from _ _ oi (or_from _ _ ri (or_from _ _ ei refl)),
-      (
-        ap is_closable console.output,
-        or_from _ _ ro (or_from _ _ eo refl),
-        (
-          ap is_closable console.errors,
-          or_from _ _ er refl,
-          (ap is_closable event, refl, tt),
-        ),
-      ),
-    )
+  begun_objects : FitsObjects up v.objects [] None
+  begun_objects = record {
+    once = begun_once;
+    kinds = begun_kinds;
+    homes = and_from (is_thread_of (file_or_child c) (object_at v.objects (handle c 4))) true fits.made.1.home refl;
+    codes = and_from (is_some (running (object_at v.objects (file_or_child c)))) true
+        (ap (λ x. is_some (running x)) fits.made.0.child) refl;
+  }
 
-one_of_three : (P : Description → Type 0) (a b c : Bool) (x y z d : Description) → P x → P y → P z → (if a then Some x else (if b then Some y else (if c then Some z else None))) ≡ Some d → P d
-one_of_three P true b c x y z d px py pz is = subst P (same_Some x d is) px
-one_of_three P false true c x y z d px py pz is = subst P (same_Some y d is) py
-one_of_three P false false true x y z d px py pz is = subst P (same_Some z d is) pz
-one_of_three P false false false x y z d px py pz is = absurd (none-some d is)
+-- ---- the new thread alone has a record, and stands nowhere but among the suspended ones
 
--- The ready list has the new thread alone, by its id.
-first_ready : (n : ThreadNote) (ready : List ℕ) → ready ≡ [] → tids_of (n ∷ []) (ready ++ n.handle ∷ []) ≡ n.tid ∷ []
-first_ready n ready none =
-    ap (λ ts. tids_of (n ∷ []) (ts ++ n.handle ∷ [])) none ∙ ap (λ b. filter_map (λ (x : Option ThreadNote). option_map (λ m. m.tid) x) ((if b then Some n else None) ∷ [])) (eq-eqb n.handle n.handle refl)
+none_of : {X Y : Type 0} (t : ℕ) (key : X → ℕ) (value : X → Option Y)
+    → ((x : X) → (t == key x) ≡ false → value x ≡ None) → (xs : List X)
+    → times t (map key xs) ≡ 0 → filter_map value xs ≡ []
+none_of t key value none [] zero = refl
+none_of t key value none (x ∷ xs) zero =
+    let sum = times-cons t (key x) (map key xs) in
+    let other : (t == key x) ≡ false =
+    ne_eqb t (key x) (λ same. absurd (let one : ◌≡◌ {A = ℕ} (cond (key x == t) 1 0) 1 = ap (λ b. cond b 1 0) (eq-eqb (key x) t (sym same)) in omega arith)) in
+    ap (λ y. cons_option y (filter_map value xs)) (none x other)
+    ∙ none_of t key value none xs (omega arith)
 
-begun_records : (os : LibOs) (c : Cont) (o : Objects) → FitsEvent os o c →
-    FitsRecords (answered_at os c StartThread Done) o.live (first_process c) (first_thread c)
-begun_records os c o fits =
-    let count = fits.thread.count in
-    let console = console_of o.live c.handles (omega arith) fits.thread.opened in
-    record {
-      processes = refl;
-      threads = refl;
-      first = refl;
-      alive = refl;
-      home = refl;
-      memory = ap (λ x. is_some (running x)) fits.thread.child;
-      context = fits.thread.context;
-      object = fits.thread.thread;
-      alone = fits.thread.alone;
-      closable = console_closable o.live c.handles (handle c 5) fits.set console fits.event;
-      streams = λ id d is. one_of_three (λ n. get {R = nat_cmp} o.live n.handle ≡ Some (Stream (stream_of_kind n.kind))) (1 == id) (2 == id) (3 == id) _ _ _ d console.input console.output console.errors is;
-      inputs = λ id d is. one_of_three (λ n. n.kind ≡ kind.ConIn → bit_and n.access 2 ≢ 2) (1 == id) (2 == id) (3 == id) _ _ _ d (λ _ same. absurd (omega arith)) (λ same. absurd (cc)) (λ same. absurd (cc)) is;
-    }
+-- A list of threads where the new one doesn't stand.
+nobody : (n : ThreadNote) (hs : List ℕ) → times n.handle hs ≡ 0 → tids_of (n ∷ []) hs ≡ []
+nobody n hs zero =
+    none_of n.handle (λ h. h) (λ h. option_map (λ m. m.tid) (thread_with h (n ∷ [])))
+    (λ h other. ap (λ b. option_map {T = ThreadNote} (λ m. m.tid) (cond b (Some n) None)) other) hs
+    (ap (times n.handle) (map-id hs) ∙ zero)
 
-pub keeps_start_thread : (os : LibOs) (c : Cont) (w w' : World) (r : Reply) → FitsStage os w.objects c StartThread → IsSound w.objects → Abi w (asked os c StartThread) r w' → Holds os c StartThread w r w'
+none_mapped : {X Y : Type 0} (f : X → Y) (x : Option X) → x ≡ None → option_map f x ≡ None
+none_mapped f x none = ap (option_map f) none
+
+lists_unbegun : (os : LibOs) (l : Lists Waiting) (n : ThreadNote) → os.threads ≡ n ∷ []
+    → times n.handle l.ready ≡ 0 → times n.handle (waiting_threads l) ≡ 0
+    → lists_of os l ≡ no_threads
+lists_unbegun os l n only ready waiting =
+    let no_ready : tids_of os.threads l.ready ≡ [] =
+    ap (λ ns. tids_of ns l.ready) only ∙ nobody n l.ready ready in
+    let none : (w : Waiting) → (n.handle == w.thread) ≡ false → thread_with w.thread os.threads ≡ None =
+    λ w other. ap (thread_with w.thread) only ∙ ap (λ b. cond b (Some n) None) other in
+    let no_waiter : filter_map (waiter_of os) l.waiting ≡ [] =
+    none_of n.handle (λ w. w.thread) (waiter_of os)
+    (λ w other. none_mapped (λ m. record {
+      thread = m.tid;
+      targets = map (target_of os) w.handles;
+      deadline = w.deadline;
+    }) (thread_with w.thread os.threads) (none w other)) l.waiting waiting in
+    λ i. record { ready = no_ready i; waiting = no_waiter i; suspended = []; current = None }
+
+-- ---- the thread becomes ready
+
+module _ (os : LibOs) (c : Cont) (v : Visible) (fits : FitsStage os v.objects c StartThread)
+    (sound : IsSound v.objects) where
+  rests : is_resting v.objects.lists (handle c 4) ≡ true
+  rests = or_left (contains v.objects.lists.suspended (handle c 4))
+      (is_at (handle c 4) v.objects.lists.current) fits.made.1.suspended
+
+  -- It stands once.
+  lists_before : lists_of (up os c v fits) v.objects.lists ≡ no_threads
+  lists_before =
+      let thread = thread_of (file_or_child c) (object_at v.objects (handle c 4)) fits.made.1.home in
+      let once = sound.standing (handle c 4)
+      ∙ ap (λ x. cond (is_some_thread x) 1 0) thread.is in
+      let there = times-contained (handle c 4) v.objects.lists.suspended fits.made.1.suspended in
+      lists_unbegun (up os c v fits) v.objects.lists (first_thread c) refl (omega arith) (omega arith)
+
+  -- The machine that the records name, before its thread is ready.
+  base_begun : base (up os c v fits) (with_visible v (resumed_objects v.objects (handle c 4)))
+      ≡ begun (unstarted v) (child_memory v c) (child_context v c)
+  base_begun =
+      let os' = up os c v fits in
+      let rested = with_visible v (with_lists v.objects (without_resting v.objects.lists (handle c 4))) in
+      base-with_ready os' rested (handle c 4) (first_thread c)
+      (ap (λ b. cond b (Some (first_thread c)) None) (eq-eqb (handle c 4) (handle c 4) refl))
+      ∙ (λ i. made_ready (record (begun (unstarted v) (child_memory v c) (child_context v c)) {
+        threads = insert empty 1 (record {
+          process = 1;
+          context = child_context v c;
+          woken = is_set (fits.made.2 i);
+        });
+        lists = lists_before i;
+      }) 1)
+
+pub keeps_start_thread : (os : LibOs) (c : Cont) (w w' : World) (r : Reply)
+    → FitsStage os w.objects c StartThread → IsSound w.objects
+    → Abi w (asked os c StartThread) r w' → HoldsQuietly os c StartThread w r w'
 keeps_start_thread os c w w' r fits sound abi =
+    let v = visible w in
     let t = handle c 4 in
-    let row : answer w (asked os c StartThread) r ≡ (Done, with_objects w (resumed_objects w.objects t)) =
-    resume_suspended w t (file_or_child c) fits.thread.context r fits.thread.thread fits.thread.suspended in
-    let records = begun_records os c w.objects fits in
-    by_row os c StartThread w w' r (Done, with_objects w (resumed_objects w.objects t)) abi row
-    (record {
+    let o = resumed_objects w.objects t in
+    let os' = up os c v fits in
+    let thread = thread_of (file_or_child c) (object_at w.objects t) fits.made.1.home in
+    let row : answer w (asked os c StartThread) r ≡ (Done, with_objects w o) =
+    ap (on_objects w) (row_resumed w.objects t (file_or_child c) thread.context thread.is
+    (rests os c v fits sound)) in
+    quietly_by_row os c StartThread w w' r Done o abi row (record {
       fits = record {
-        up = refl;
-        process = first_process c;
-        thread = first_thread c;
-        records = records;
-        ready = ap (λ ts. ts ++ t ∷ []) fits.thread.start.ready;
-        suspended = none_rests t w.objects.lists.suspended fits.thread.suspended;
-        current = ap (other_than t) fits.thread.start.current;
+        records = begun_records os c v fits;
+        first = refl;
+        objects = FitsObjects-same os' w.objects o [] None (λ q. refl) (begun_objects os c v fits);
+        current = ap (other_than t) (start_of os w.objects c StartThread refl fits).current;
       };
-      means = ap (λ ts. Runs (record (begun (unstarted w) (child_memory w c) (child_context w c)) { ready = ts })) (first_ready (first_thread c) w.objects.lists.ready fits.thread.start.ready);
+      means = ap (λ m. settles (Runs m)) (base_begun os c v fits sound);
     })

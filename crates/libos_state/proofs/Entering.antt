@@ -1,46 +1,43 @@
 -- The library OS begins to serve a trap: it stands for the machine that has served it.
-use Rattle.std.specs.Prelude.{◌≡◌, ◌≢◌, ℕ, ◌%◌, ◌==◌, ◌<◌, Bool, true, false, cond, if◌then◌else◌, [], ◌∷◌, map, bit_and, is_some}
+use Rattle.std.specs.Prelude.{◌≡◌, ℕ, ◌%◌, ◌==◌, ◌<◌, Bool, true, false, cond, if◌then◌else◌, not, ◌&&◌, ◌||◌, [], ◌∷◌, bit_and, is_some}
 use Rattle.std.specs.Option.{option_map}
-use Rattle.std.specs.FinMap.{insert, empty}
 use Rattle.std.specs.declared.option.Option.{Option}
 use Rattle.std.specs.declared.option.Option.TheVariants.{None, Some}
 use Rattle.std.proofs.Common.{arith, refl, sym, ap, subst, ◌∙◌, eq-eqb, eqb-true}
-use Rattle.std.proofs.lemmas.Bool.{cond-true, eqb-false}
-use Rattle.abi_calls.specs.declared.object.Object.TheVariants.{Thread}
+use Rattle.std.proofs.lemmas.Bool.{cond-true, and_from, or_left, or_right}
+use Rattle.turn_sched.specs.Lists.{is_at}
+use Rattle.abi_calls.specs.declared.threads.Turned.{Turned}
+use Rattle.abi_calls.specs.declared.threads.Turned.TheVariants.{Exception}
 use Rattle.abi_calls.specs.declared.threads.Upcall.{Upcall}
-use Rattle.abi_calls.specs.Objects.{object_at, running}
-use Rattle.abi_calls.specs.World.{World}
-use Rattle.bas_items.proofs.NumberMaps.{insert-insert}
-use Rattle.mono_model.specs.Machine.{Mono, register, returned, exited}
-use Rattle.mono_model.specs.Calls.{Caller, WRITE, EXIT, EBADF, ENOSYS, error, fault_code, finished, ended, description_of, memory_at, write, write_to, write_from, writable, moved, exit, system_call, served}
+use Rattle.abi_calls.specs.Objects.{Objects}
+use Rattle.mono_model.specs.Machine.{Mono, register}
+use Rattle.mono_model.specs.Calls.{Caller, Served, WRITE, EXIT, EBADF, ENOSYS, error, fault_code, finished, silently, ended, description_of, write, write_to, write_from, writable, moved, exit, system_call, served}
 use Rattle.mono_model.specs.Starting.{Runs}
 use Rattle.libos_state.specs.declared.cont.Cont.{Cont}
-use Rattle.libos_state.specs.declared.cont.Stage.TheVariants.{SetContext, ReadMemory}
+use Rattle.libos_state.specs.declared.cont.Stage.TheVariants.{SetContext, CloseHandles, ReadBuffer}
+use Rattle.libos_state.specs.declared.cont.Stage.{Stage}
 use Rattle.libos_state.specs.declared.notes.Description.{Description}
 use Rattle.libos_state.specs.declared.notes.ProcessNote.{ProcessNote}
 use Rattle.libos_state.specs.declared.state.LibOs.{LibOs}
-use Rattle.libos_state.specs.Records.{base, description_behind, description_seen, stream_of_kind, process_seen, tids_of}
-use Rattle.libos_state.specs.Pending.{upcall_in}
-use Rattle.libos_state.specs.Answered.{bare, goes_on}
-use Rattle.libos_state.specs.Entered.{entered, entered_with, result_of, write_entered, handles_of, note_ended, without_process, ends_process, call_entered}
-use Rattle.libos_state.specs.Meaning.{meaning, caller_in}
-use Rattle.libos_state.specs.Fits.{Fits, FitsServed, FitsWrite, FitsEnding}
+use Rattle.libos_state.specs.declared.state.Boot.TheVariants.{Up}
+use Rattle.libos_state.specs.Records.{Visible, with_visible, base, description_behind, description_seen, stream_of_kind, process_named, process_with, pid_with}
+use Rattle.libos_state.specs.Answered.{goes_on}
+use Rattle.libos_state.specs.Entered.{entered, entered_with, result_of, write_entered, ends_process, call_entered, handles_of, note_ended, without_process}
+use Rattle.libos_state.specs.Meaning.{caller_of, leads_to, settles}
+use Rattle.libos_state.specs.Fits.{FitsStage, FitsTrap, comes_to, is_call, is_recorded, is_writable, is_ended_with, writes, returns}
+use Rattle.libos_state.specs.Turned.{FitsTrapped, TurnsTo}
 use Rattle.libos_state.specs.Laws.{EntersTurn}
-use Rattle.libos_state.proofs.Bases.{processes_one, processes_over, described_alike}
-use Rattle.libos_state.proofs.Served.{served_on, trap_process, trap_thread, trap_object, caller_process}
+use Rattle.libos_state.proofs.Rows.{Stands}
+use Rattle.libos_state.proofs.Going.{FitsRecords-with_service, FitsObjects-with_service}
+use Rattle.libos_state.proofs.Naming.{times_named-recorded, times_recorded-most, Trapped, trapped, caller_of-trapped}
+use Rattle.libos_state.proofs.Bases.{description_of-base}
+use Rattle.libos_state.proofs.Serving.{result_fits}
 use Rattle.libos_state.proofs.Writing.{served_write}
-use Rattle.libos_state.proofs.Ending.{closes_fits, closes_means}
-use Rattle.libos_state.proofs.Turning.{Traps, turn_traps}
-
--- A library OS that fits a world, and stands for a machine there.
-pub record StandsFor (os : LibOs) (w : World) (m : Mono) : Type 0 where
-  pub fits : Fits os w.objects
-  pub means : meaning os w ≡ Runs m
-
--- The trap of a write.
-pub record IsWrite (u : Upcall) : Type 0 where
-  pub call : u.cause ≡ 8
-  pub number : register u.context 17 ≡ WRITE
+use Rattle.libos_state.proofs.Ending.{closing_fits, closing_means}
+use Rattle.libos_state.proofs.Closing.{process_found, pid_is, process_there, FitsObjects-without_process}
+use Rattle.libos_state.proofs.Leaving.{base-without_process}
+use Rattle.libos_state.proofs.LeftRecords.{process_named-ended, process_with-ended, FitsRecords-without_process}
+use Rattle.libos_state.proofs.Turning.{turns}
 
 byte_if : (b : Bool) (x y : ℕ) → x < 256 → y < 256 → (if b then x else y) < 256
 byte_if true x y p q = p
@@ -51,159 +48,191 @@ fault_byte cause =
     byte_if (cause == 2) 132 (if cause == 3 then 133 else (if cause == 0 then 135 else 139)) (omega arith)
     (byte_if (cause == 3) 133 (if cause == 0 then 135 else 139) (omega arith) (byte_if (cause == 0) 135 139 (omega arith) (omega arith)))
 
-module _ (os : LibOs) (w : World) (u : Upcall) (fits : FitsServed os w.objects (entered_with u)) where
+-- Where the trap's process ends, the library OS stands for the machine in which it has ended.
+abbrev pub EndsProcess : LibOs → Visible → Upcall → Type 0
+EndsProcess os v u = (code : ℕ) → code < 256 → (not (u.cause == 8) || is_call u EXIT) ≡ true
+    → Stands (ends_process os u code) v (leads_to (silently (ended (base os v) (caller_of os u).process code)))
+
+module _ (os : LibOs) (v : Visible) (u : Upcall) (up : os.boot ≡ Up) (fits : FitsTrapped os v.objects u) (ends : EndsProcess os v u) where
   abbrev m : Mono
-  m = base os w
+  m = base os v
 
   abbrev who : Caller
-  who = caller_in os (entered_with u)
+  who = caller_of os u
+
+  home : Trapped os v.objects u
+  home = trapped os v.objects u [] None fits.records fits.objects fits.home fits.recorded
+
+  trap_at : (cont : Option Cont) (stage : Stage) → comes_to os u stage ≡ true → FitsTrap (record os { cont = cont }) v.objects u stage
+  trap_at cont stage comes = record { up = up; first = fits.first; current = fits.current; home = fits.home; comes = comes }
 
   -- a result that is known at once
-  result_stands : (result : ℕ) → StandsFor (result_of os u result) w (finished m who result)
-  result_stands result =
-      let c : Cont = record (bare (entered_with u) SetContext) { next = returned u.context result } in
-      record { fits = served_on os (Some c) w.objects (entered_with u) c refl fits; means = refl }
-
-  -- the process ends
-  abbrev ending : ℕ → LibOs
-  ending code = without_process os u.process code
-
-  abbrev ending_with : ℕ → Cont
-  ending_with code = record (entered_with u) { numbers = code ∷ [] }
-
-  abbrev note : ℕ → ProcessNote
-  note code = record fits.process { code = Some code; descriptors = [] }
-
-  at_process : u.process ≡ fits.process.handle
-  at_process = trap_process os w.objects (entered_with u) fits
-
-  notes_are : (code : ℕ) → (ending code).processes ≡ note code ∷ []
-  notes_are code = ap (map (note_ended u.process code)) fits.records.processes
-      ∙ ap (λ n. n ∷ []) (cond-true (fits.process.handle == u.process) (note code) fits.process (eq-eqb fits.process.handle u.process (sym at_process)))
-
-  ending_fits : (code : ℕ) → code < 256 → FitsEnding (ending code) w.objects (ending_with code)
-  ending_fits code byte = record {
-    upcall = u;
-    event = refl;
-    up = fits.up;
-    process = note code;
-    processes = notes_are code;
-    first = fits.records.first;
-    code = code;
-    byte = byte;
-    ended = refl;
-    kept = refl;
-    of_process = at_process;
-    threads = refl;
-    descriptions = refl;
-    memory = ap (λ h. is_some (running (object_at w.objects h))) at_process ∙ fits.records.memory;
-    context = fits.records.context;
-    object = trap_object os w.objects (entered_with u) fits ∙ ap (λ h. Some (Thread h fits.records.context)) (sym at_process);
-    ready = fits.ready;
-    suspended = fits.suspended;
-    current = fits.current ∙ ap Some (sym (trap_thread os w.objects (entered_with u) fits));
+  result_stands : (result : ℕ) → returns os u ≡ true → Stands (result_of os u result) v (leads_to (silently (finished m who result)))
+  result_stands result goes = record {
+    fits = result_fits os v.objects (entered_with u) result fits.records fits.objects (trap_at (result_of os u result).cont SetContext goes);
+    means = refl;
   }
 
-  ending_base : (code : ℕ) → base (ending code) w ≡ ended m who.process code
-  ending_base code =
-      let pid = fits.process.pid in
-      let seen = process_seen w.objects.live fits.process in
-      let ps = processes_over (ending code).processes (note code) code w.objects.live (notes_are code) refl
-      ∙ sym ((λ i. insert (processes_one os.processes fits.process w.objects.live fits.records.processes i) (caller_process os w.objects (entered_with u) fits i) (exited code))
-      ∙ insert-insert empty pid seen (exited code)) in
-      let rs = ap (tids_of []) fits.ready in
-      λ i. record m { processes = ps i; threads = empty; descriptions = empty; ready = rs i }
-
-  process_stands : (code : ℕ) → code < 256 → StandsFor (ends_process os u code) w (ended m who.process code)
-  process_stands code byte = record {
-    fits = closes_fits (ending code) w.objects (ending_with code) (handles_of os) (ending_fits code byte) fits.records.closable;
-    means = closes_means (ending code) w (ending_with code) (handles_of os) ∙ ap Runs (ending_base code);
-  }
+  -- a call that isn't an exit goes on behind itself
+  call_returns : (u.cause == 8) ≡ true → (register u.context 17 == EXIT) ≡ false → returns os u ≡ true
+  call_returns call other = and_from (u.cause == 8) (not (is_call u EXIT) && is_recorded os u) call
+      (and_from (not (is_call u EXIT)) (is_recorded os u) (λ i. not (call i && other i)) fits.recorded)
 
   -- a write of some bytes to a descriptor that is open for writing
   abbrev fd : ℕ
   fd = register u.context 10
 
   described : description_of m who.process fd ≡ option_map description_seen (description_behind os u.process fd)
-  described = ap (λ p. description_of m p fd) (caller_process os w.objects (entered_with u) fits)
-      ∙ described_alike os w fits.process u.process fd fits.records.processes fits.records.alive at_process
+  described =
+      ap (λ (x : Caller). description_of m x.process fd) (caller_of-trapped os v.objects u home)
+      ∙ description_of-base os v u.process fd home.links.process fits.records (ap (λ h. process_with h os.processes) home.process ∙ home.links.behind)
+
+  -- the trap of a write
+  record IsWrite : Type 0 where
+    call : (u.cause == 8) ≡ true
+    number : (register u.context 17 == WRITE) ≡ true
+
+  write_returns : IsWrite → returns os u ≡ true
+  write_returns is = call_returns is.call (ap (λ n. n == EXIT) (eqb-true (register u.context 17) WRITE is.number))
 
   abbrev reading : Cont
-  reading = record (entered_with u) { stage = ReadMemory }
+  reading = record (entered_with u) { stage = ReadBuffer }
 
-  write_fits : (d : Description) → IsWrite u → description_behind os u.process fd ≡ Some d → bit_and d.access 2 ≡ 2 → register u.context 12 ≢ 0 → FitsWrite (goes_on os reading) w.objects reading
-  write_fits d is behind allowed some =
-      let trap : fits.upcall ≡ u = sym (ap upcall_in fits.event) in
-      record {
-        served = served_on os (Some reading) w.objects (entered_with u) reading refl fits;
-        call = ap (λ (v : Upcall). v.cause) trap ∙ is.call;
-        write = ap (λ (v : Upcall). register v.context 17) trap ∙ is.number;
-        some = λ none. some (sym (ap (λ (v : Upcall). register v.context 12) trap) ∙ none);
-        description = d;
-        behind = ap (λ (v : Upcall). description_behind os v.process (register v.context 10)) trap ∙ behind;
-        writable = allowed;
-      }
+  write_fits : (d : Description) → IsWrite → description_behind os u.process fd ≡ Some d → (bit_and d.access 2 == 2) ≡ true → (register u.context 12 == 0) ≡ false
+      → FitsStage (goes_on os reading) v.objects reading ReadBuffer
+  write_fits d is behind allowed some = record {
+    records = FitsRecords-with_service os os.boot (Some reading) fits.records;
+    objects = FitsObjects-with_service os os.boot (Some reading) v.objects [] None fits.objects;
+    event = trap_at (Some reading) ReadBuffer
+        (and_from (writes os u) (is_recorded os u)
+        (and_from (is_call u WRITE) (not (register u.context 12 == 0) && is_writable (description_behind os u.process fd))
+        (and_from (u.cause == 8) (register u.context 17 == WRITE) is.call is.number)
+        (and_from (not (register u.context 12 == 0)) (is_writable (description_behind os u.process fd)) (ap not some) (ap is_writable behind ∙ allowed))) fits.recorded);
+    lists = record { next = λ keeps. refl; names = λ keeps. refl; bytes = λ keeps. refl; handles = refl; numbers = refl };
+    names = tt;
+    kept = tt;
+    made = tt;
+  }
 
-  abbrev written_from : Description → Mono
+  abbrev written_from : Description → Served
   written_from d = write_from m who (stream_of_kind d.kind) (register u.context 11) (moved (register u.context 12))
 
   -- of some bytes or of none
-  some_stand : (d : Description) → IsWrite u → description_behind os u.process fd ≡ Some d → bit_and d.access 2 ≡ 2 → (none : Bool) → (register u.context 12 == 0) ≡ none →
-      StandsFor (cond none (result_of os u 0) (goes_on os reading)) w (cond none (finished m who 0) (written_from d))
-  some_stand d is behind allowed true none = result_stands 0
+  some_stand : (d : Description) → IsWrite → description_behind os u.process fd ≡ Some d → (bit_and d.access 2 == 2) ≡ true → (none : Bool) → (register u.context 12 == 0) ≡ none →
+      Stands (cond none (result_of os u 0) (goes_on os reading)) v (leads_to (cond none (silently (finished m who 0)) (written_from d)))
+  some_stand d is behind allowed true none = result_stands 0 (write_returns is)
   some_stand d is behind allowed false some =
       let there : description_of m who.process fd ≡ Some (description_seen d) = described ∙ ap (option_map description_seen) behind in
-      let more = eqb-false (register u.context 12) 0 some in
       record {
-        fits = write_fits d is behind allowed more;
-        means = ap Runs (served_write m who u.cause (description_seen d) (memory_at m who.process) is.call is.number there allowed more refl);
+        fits = write_fits d is behind allowed some;
+        means = ap leads_to (served_write m who (u.cause, u.value) (description_seen d) is.call is.number there allowed some);
       }
 
   -- to a descriptor that is open for writing, or not
-  open_stands : (d : Description) → IsWrite u → description_behind os u.process fd ≡ Some d → (allowed : Bool) → (bit_and d.access 2 == 2) ≡ allowed →
-      StandsFor (cond allowed (cond (register u.context 12 == 0) (result_of os u 0) (goes_on os reading)) (result_of os u (error EBADF))) w (write_to m who (cond allowed (Some (stream_of_kind d.kind)) None))
-  open_stands d is behind true allowed = some_stand d is behind (eqb-true (bit_and d.access 2) 2 allowed) (register u.context 12 == 0) refl
-  open_stands d is behind false refused = result_stands (error EBADF)
+  open_stands : (d : Description) → IsWrite → description_behind os u.process fd ≡ Some d → (allowed : Bool) → (bit_and d.access 2 == 2) ≡ allowed →
+      Stands (cond allowed (cond (register u.context 12 == 0) (result_of os u 0) (goes_on os reading)) (result_of os u (error EBADF))) v
+      (leads_to (write_to m who (cond allowed (Some (stream_of_kind d.kind)) None)))
+  open_stands d is behind true allowed = some_stand d is behind allowed (register u.context 12 == 0) refl
+  open_stands d is behind false refused = result_stands (error EBADF) (write_returns is)
 
-  behind_stands : (x : Option Description) → IsWrite u → description_behind os u.process fd ≡ x → StandsFor (write_entered os u x) w (write_to m who (writable (option_map description_seen x)))
-  behind_stands None is behind = result_stands (error EBADF)
+  behind_stands : (x : Option Description) → IsWrite → description_behind os u.process fd ≡ x → Stands (write_entered os u x) v (leads_to (write_to m who (writable (option_map description_seen x))))
+  behind_stands None is behind = result_stands (error EBADF) (write_returns is)
   behind_stands (Some d) is behind = open_stands d is behind (bit_and d.access 2 == 2) refl
 
-  write_stands : IsWrite u → StandsFor (write_entered os u (description_behind os u.process fd)) w (write m who)
-  write_stands is = subst (λ x. StandsFor (write_entered os u (description_behind os u.process fd)) w (write_to m who (writable x))) (sym described) (behind_stands (description_behind os u.process fd) is refl)
+  write_stands : IsWrite → Stands (write_entered os u (description_behind os u.process fd)) v (leads_to (write m who))
+  write_stands is = subst (λ x. Stands (write_entered os u (description_behind os u.process fd)) v (leads_to (write_to m who (writable x)))) (sym described)
+      (behind_stands (description_behind os u.process fd) is refl)
 
   -- a system call, by its number
   abbrev number : ℕ
   number = register u.context 17
 
-  other_stands : (exits : Bool) → StandsFor (cond exits (ends_process os u (register u.context 10 % 256)) (result_of os u (error ENOSYS))) w (cond exits (exit m who) (finished m who (error ENOSYS)))
-  other_stands true = process_stands (register u.context 10 % 256) (omega arith)
-  other_stands false = result_stands (error ENOSYS)
+  other_stands : (u.cause == 8) ≡ true → (exits : Bool) → (number == EXIT) ≡ exits →
+      Stands (cond exits (ends_process os u (register u.context 10 % 256)) (result_of os u (error ENOSYS))) v
+      (leads_to (cond exits (silently (exit m who)) (silently (finished m who (error ENOSYS)))))
+  other_stands call true is = ends (register u.context 10 % 256) (omega arith)
+      (or_right (not (u.cause == 8)) (is_call u EXIT) (and_from (u.cause == 8) (number == EXIT) call is))
+  other_stands call false other = result_stands (error ENOSYS) (call_returns call other)
 
   abbrev other_entered : LibOs
   other_entered = if number == EXIT then ends_process os u (register u.context 10 % 256) else result_of os u (error ENOSYS)
 
-  abbrev other_call : Mono
-  other_call = if number == EXIT then exit m who else finished m who (error ENOSYS)
+  abbrev other_call : Served
+  other_call = if number == EXIT then silently (exit m who) else silently (finished m who (error ENOSYS))
 
-  call_stands : u.cause ≡ 8 → (writes : Bool) → (number == WRITE) ≡ writes →
-      StandsFor (cond writes (write_entered os u (description_behind os u.process fd)) other_entered) w (cond writes (write m who) other_call)
-  call_stands call true is = write_stands (record { call = call; number = eqb-true number WRITE is })
-  call_stands call false other = other_stands (number == EXIT)
+  call_stands : (u.cause == 8) ≡ true → (writes : Bool) → (number == WRITE) ≡ writes →
+      Stands (cond writes (write_entered os u (description_behind os u.process fd)) other_entered) v (leads_to (cond writes (write m who) other_call))
+  call_stands call true is = write_stands (record { call = call; number = is })
+  call_stands call false other = other_stands call (number == EXIT) refl
 
   cause_stands : (calls : Bool) → (u.cause == 8) ≡ calls →
-      StandsFor (cond calls (call_entered os u number) (ends_process os u (fault_code u.cause))) w (cond calls (system_call m who number) (ended m who.process (fault_code u.cause)))
-  cause_stands true is = call_stands (eqb-true u.cause 8 is) (number == WRITE) refl
-  cause_stands false fault = process_stands (fault_code u.cause) (fault_byte u.cause)
+      Stands (cond calls (call_entered os u number) (ends_process os u (fault_code u.cause))) v
+      (leads_to (cond calls (system_call m who number) (silently (ended m who.process (fault_code u.cause)))))
+  cause_stands true is = call_stands is (number == WRITE) refl
+  cause_stands false fault = ends (fault_code u.cause) (fault_byte u.cause) (or_left (not (u.cause == 8)) (is_call u EXIT) (ap not fault))
 
-  pub trap_stands : StandsFor (entered os u) w (served m who u.cause)
-  trap_stands = cause_stands (u.cause == 8) refl
+  pub entered_stands-by : Stands (entered os u) v (leads_to (served m who (u.cause, u.value)))
+  entered_stands-by = cause_stands (u.cause == 8) refl
+
+-- ---- the trap's process ends
+
+some_mapped : {A B : Type 0} (f : A → B) (x : Option A) → is_some x ≡ true → is_some (option_map f x) ≡ true
+some_mapped f None some = some
+some_mapped f (Some a) some = refl
+
+module _ (os : LibOs) (v : Visible) (u : Upcall) (up : os.boot ≡ Up) (fits : FitsTrapped os v.objects u) (code : ℕ) (byte : code < 256) where
+  abbrev home_of : Trapped os v.objects u
+  home_of = trapped os v.objects u [] None fits.records fits.objects fits.home fits.recorded
+
+  abbrev p : ℕ
+  p = pid_with os u.process
+
+  abbrev left : LibOs
+  left = without_process os p code
+
+  abbrev ending : Cont
+  ending = record (entered_with u) { numbers = code ∷ [] }
+
+  ended_code : is_ended_with (process_with u.process left.processes) code ≡ true
+  ended_code =
+      let process = home_of.links.process in
+      ap (λ x. is_ended_with x code) (process_with-ended p code u.process os.processes ∙ ap (option_map (note_ended p code)) (process_found os v.objects u home_of code fits.records fits.objects))
+      ∙ ap (λ (n : ProcessNote). is_at code n.code) (cond-true (process.pid == p) (record process { code = Some code; descriptors = [] }) process
+      (eq-eqb process.pid p (sym (pid_is os v.objects u home_of code fits.records fits.objects))))
+      ∙ eq-eqb code code refl
+
+  ending_trap : (not (u.cause == 8) || is_call u EXIT) ≡ true → FitsTrap left v.objects u CloseHandles
+  ending_trap comes = record {
+    up = up;
+    first = ap is_some (process_named-ended p code 1 os.processes) ∙ some_mapped (note_ended p code) (process_named 1 os.processes) fits.first;
+    current = fits.current;
+    home = fits.home;
+    comes = comes;
+  }
+
+  process_ends : (not (u.cause == 8) || is_call u EXIT) ≡ true → Stands (ends_process os u code) v (leads_to (silently (ended (base os v) p code)))
+  process_ends comes = record {
+    fits = closing_fits left v.objects ending (FitsRecords-without_process os p code fits.records) (ending_trap comes)
+        (record { code = code; kept = refl; byte = byte; ended = ended_code }) (handles_of os p)
+        (FitsObjects-without_process os v.objects u home_of code fits.records fits.objects);
+    means = closing_means left v ending (handles_of os p)
+        ∙ ap (λ m. settles (Runs m)) (base-without_process os v fits.records p
+        (λ q. omega (arith, times_recorded-most os v.objects [] None fits.objects q, times_named-recorded q os)) code home_of.links.process
+        (process_there os v.objects u home_of code fits.records fits.objects));
+  }
+
+-- ---- the whole
+
+-- A library OS that enters a trap stands for the machine that has served it.
+pub entered_stands : (os : LibOs) (v : Visible) (u : Upcall) → os.boot ≡ Up → FitsTrapped os v.objects u
+    → Stands (entered os u) v (leads_to (served (base os v) (caller_of os u) (u.cause, u.value)))
+entered_stands os v u up fits = entered_stands-by os v u up fits (λ code byte comes. process_ends os v u up fits code byte comes)
 
 -- A trap makes the library OS stand for the machine's next turn.
-pub enters_turn : (os : LibOs) (u : Upcall) → EntersTurn os u (entered os u)
-enters_turn os u = record {
-  enters = λ w o idle sound is.
-      let traps : Traps os w u o = turn_traps os w u o idle sound is in
-      let stands = trap_stands os (record w { objects = o }) u traps.fits in
-      (stands.fits, stands.means ∙ ap Runs traps.turns);
+pub entered_turn : (os : LibOs) (u : Upcall) → EntersTurn os u (entered os u)
+entered_turn os u = record {
+  enters = λ v o up fits sound is.
+      let to : TurnsTo os v (Exception u) o = subst (λ (x : Turned × Objects). TurnsTo os v x.0 x.1) is (turns os v fits sound) in
+      let stands = entered_stands os (with_visible v o) u up to.0 in
+      (stands.fits, stands.means ∙ ap leads_to (sym to.2));
 }

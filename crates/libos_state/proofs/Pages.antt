@@ -5,7 +5,7 @@ use Rattle.std.specs.FinMap.{empty, len, len-empty}
 use Rattle.std.specs.Option.{option_map}
 use Rattle.std.specs.declared.option.Option.{Option}
 use Rattle.std.specs.declared.option.Option.TheVariants.{None, Some}
-use Rattle.std.proofs.Common.{refl, sym, ap, ◌∙◌, arith, le-leb, leb-true, lt-ltb, ltb-true, le-ltb}
+use Rattle.std.proofs.Common.{refl, sym, ap, subst, ◌∙◌, arith, le-leb, leb-true, lt-ltb, ltb-true, le-ltb}
 use Rattle.std.proofs.lemmas.Bool.{and_from, and_parts, and_right, cond-true}
 use Rattle.std.proofs.lemmas.Bool.Decides.{nat_tests}
 use Rattle.guest_space.specs.Space.{Space, Frame, in_run, memory_of, page_rights, with_run, protected, with_memory}
@@ -13,24 +13,20 @@ use Rattle.guest_space.specs.Run.{is_run, first_held, first_missing}
 use Rattle.guest_space.specs.Access.{first_fault, with_bytes}
 use Rattle.guest_space.proofs.Filling.{page_rights-with_run, page_rights-protected, page_rights-with_memory, is_held-rights, len-with_run, len-protected, len-with_memory}
 use Rattle.rv_core.specs.Memory.{Memory}
-use Rattle.abi_calls.specs.declared.object.Object.TheVariants.{Process, Stream}
+use Rattle.abi_calls.specs.declared.object.Object.TheVariants.{Process}
 use Rattle.abi_calls.specs.declared.reply.Reply.TheVariants.{Done, Exists, BadAddress, NoRoom, TooBig}
-use Rattle.abi_calls.specs.Objects.{Object, Objects, object_at, running, is_thread, with_object}
-use Rattle.abi_calls.specs.World.{World}
+use Rattle.abi_calls.specs.Objects.{Objects, object_at, running, with_object}
 use Rattle.abi_calls.specs.Memory.{with_pages, memory_allocate_row, memory_protect_row, memory_write_row, unless_fault}
-use Rattle.bas_items.proofs.NumberMaps.{get-empty, get-insert-same, get-insert-other}
-use Rattle.mono_model.specs.Program.{page_count}
+use Rattle.bas_items.proofs.NumberMaps.{get-empty, get-insert-same}
 use Rattle.mono_model.specs.Starting.{STACK_PAGE, STACK_PAGES}
 use Rattle.libos_state.specs.declared.cont.Cont.{Cont}
-use Rattle.libos_state.specs.declared.cont.Stage.{Stage}
 use Rattle.libos_state.specs.declared.state.LibOs.{LibOs}
-use Rattle.libos_state.specs.Records.{memory_of_object}
+use Rattle.libos_state.specs.Records.{Visible, memory_of_object}
 use Rattle.libos_state.specs.Pending.{file_or_child}
-use Rattle.libos_state.specs.Answered.{goes_on, starting}
 use Rattle.libos_state.specs.Meaning.{child_memory}
-use Rattle.libos_state.specs.Fits.{HasPages, FitsChild, FitsPages}
-use Rattle.libos_state.proofs.Keeping.{none_set}
-use Rattle.libos_state.proofs.Starts.{start_goes_on, opened_kept}
+use Rattle.libos_state.specs.Named.{Named}
+use Rattle.libos_state.specs.Fits.{FitsObjects, HasPages, is_to_name}
+use Rattle.libos_state.proofs.Naming.{FitsObjects-changed, Alike, Alike-process}
 
 -- ---- which pages there are
 
@@ -127,29 +123,19 @@ module _ (o : Objects) (p : ℕ) (s : Space) (there : object_at o p ≡ Some (Pr
 
 -- ---- the process that is made gets other pages
 
-pub child_was : (w : World) (c : Cont) (s : Space) → object_at w.objects (file_or_child c) ≡ Some (Process s None) → child_memory w c ≡ s
-child_was w c s there = ap memory_of_object there
+pub child_was : (v : Visible) (c : Cont) (s : Space)
+    → object_at v.objects (file_or_child c) ≡ Some (Process s None) → child_memory v c ≡ s
+child_was v c s there = ap memory_of_object there
 
-pub child_is : (o : Objects) (p : ℕ) (s : Space) → memory_of_object (object_at (with_object o p (Process s None)) p) ≡ s
+pub child_is : (o : Objects) (p : ℕ) (s : Space)
+    → memory_of_object (object_at (with_object o p (Process s None)) p) ≡ s
 child_is o p s = ap memory_of_object (get-insert-same o.live p (Process s None))
 
-pub pages_go_on : (os : LibOs) (o : Objects) (c : Cont) (stage : Stage) (numbers : List ℕ) (s : Space) (rights stack : ℕ) → FitsChild os o c → HasPages s (page_count c.bytes) rights stack →
-    FitsPages (goes_on os (starting c stage c.bytes c.handles numbers)) (with_object o (file_or_child c) (Process s None)) (starting c stage c.bytes c.handles numbers) rights stack
-pages_go_on os o c stage numbers s rights stack fits has =
-    let p = file_or_child c in
-    let child : Object = Process s None in
-    let o' = with_object o p child in
-    record {
-      child = record {
-        start = start_goes_on os o o' c stage c.bytes c.handles numbers fits.start fits.start.ready fits.start.current;
-        suspended = fits.suspended;
-        no_thread = none_set is_thread o.live p child refl fits.no_thread;
-        count = fits.count;
-        opened = opened_kept o.live o'.live c.handles
-            (λ a name _ held. get-insert-other o.live p child a (λ same. absurd (let both : Some (Stream name) ≡ Some (Process fits.memory None) = sym held ∙ ap (object_at o) same ∙ fits.child in cc)) ∙ held) fits.opened;
-        plain = fits.plain;
-        memory = s;
-        child = get-insert-same o.live p child;
-      };
-      pages = has;
-    }
+-- What is named is named still.
+pub FitsObjects-pages : (os : LibOs) (o : Objects) (p : ℕ) (old new : Space) (names : List Named)
+    → object_at o p ≡ Some (Process old None) → FitsObjects os o names None
+    → FitsObjects os (with_pages o p new) names None
+FitsObjects-pages os o p old new names there fits =
+    FitsObjects-changed os o p (Process new None) names None
+    (subst (λ x. Alike x (Some (Process new None))) (sym there) (Alike-process old new))
+    (sym (ap (is_to_name None) there)) fits

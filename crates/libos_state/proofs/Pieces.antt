@@ -33,10 +33,10 @@ read_and_rest bytes file size k within =
     ∙ ap (λ rest. bytes ++ rest) (piece_and_rest (drop (length bytes) file) k (size - length bytes) within)
 
 -- Nothing is got where nothing is left.
-pub nothing_left : (xs : List ℕ) (k n : ℕ) → 1 ≤ k → length (take k xs) ≡ 0 → take n xs ≡ []
+pub nothing_left : (xs : List ℕ) (k n : ℕ) → (k ≡ 0 → n ≡ 0) → length (take k xs) ≡ 0
+    → take n xs ≡ []
 nothing_left xs k n some none =
-    let empty : xs ≡ [] = nil_from_length xs (omega (arith, length-take k xs)) in
-    ap (take n) empty ∙ nil_from_length (take n []) (omega (arith, length-take {A = ℕ} n []))
+    nil_from_length (take n xs) (grind (arith, length-take k xs, length-take n xs))
 
 -- A piece is all where it is as long as all.
 pub piece_is_all : (xs : List ℕ) (k n : ℕ) → k ≤ n → n ≤ length (take k xs) → take k xs ≡ take n xs

@@ -1,59 +1,89 @@
 -- The stack's pages are made, and the argument block is written into them.
 use Rattle.std.specs.Prelude.{◌≡◌, ◌+◌, ◌≤◌, [], length}
 use Rattle.std.specs.FinMap.{len}
+use Rattle.std.specs.declared.option.Option.TheVariants.{None}
 use Rattle.std.proofs.Common.{refl, sym, ap, ◌∙◌, arith}
-use Rattle.guest_space.specs.Space.{memory_of, with_run}
-use Rattle.guest_space.specs.Access.{with_bytes}
+use Rattle.guest_space.specs.Space.{with_run}
 use Rattle.guest_space.proofs.Filling.{first_held-none, first_fault-none}
+use Rattle.abi_calls.specs.declared.object.Object.TheVariants.{Process}
 use Rattle.abi_calls.specs.declared.reply.Reply.{Reply}
 use Rattle.abi_calls.specs.declared.reply.Reply.TheVariants.{Done}
 use Rattle.abi_calls.specs.World.{World, with_objects, on_objects}
 use Rattle.abi_calls.specs.Memory.{with_pages}
 use Rattle.abi_calls.specs.Abi.{Abi, answer}
 use Rattle.abi_calls.specs.Sound.{IsSound}
+use Rattle.bas_items.proofs.NumberMaps.{get-insert-same}
 use Rattle.mono_model.specs.Program.{page_count}
 use Rattle.mono_model.specs.Starting.{STACK_PAGE, STACK_PAGES, stack_pointer, argument_block, stacked, with_block, filled_from}
 use Rattle.mono_model.proofs.Sizes.{block_stands}
 use Rattle.libos_state.specs.declared.cont.Cont.{Cont}
 use Rattle.libos_state.specs.declared.cont.Stage.TheVariants.{AllocateStack, WriteBlock, CreateThread}
 use Rattle.libos_state.specs.declared.state.LibOs.{LibOs}
+use Rattle.libos_state.specs.Records.{visible}
 use Rattle.libos_state.specs.Pending.{arguments, asked, file_or_child}
-use Rattle.libos_state.specs.Meaning.{begins_with}
+use Rattle.libos_state.specs.Meaning.{settles, begins_with}
+use Rattle.libos_state.specs.Named.{kept_names}
 use Rattle.libos_state.specs.Fits.{FitsStage}
-use Rattle.libos_state.proofs.Holds.{Holds}
-use Rattle.libos_state.proofs.Keeping.{by_row}
-use Rattle.libos_state.proofs.Pages.{pages_filled, pages_stacked, has_stack, has_no_stack, allocate_row, write_row, child_was, child_is, pages_go_on}
+use Rattle.libos_state.proofs.Holds.{HoldsQuietly}
+use Rattle.libos_state.proofs.Rows.{quietly_by_row}
+use Rattle.libos_state.proofs.Pages.{pages_stacked, has_stack, has_no_stack, allocate_row, write_row, child_was, child_is, FitsObjects-pages}
+use Rattle.libos_state.proofs.Starts.{start_of, names_of, start_goes_on}
 use Rattle.libos_state.proofs.Loading.{run_size}
 
-pub keeps_allocate_stack : (os : LibOs) (c : Cont) (w w' : World) (r : Reply) → FitsStage os w.objects c AllocateStack → IsSound w.objects → Abi w (asked os c AllocateStack) r w' → Holds os c AllocateStack w r w'
+pub keeps_allocate_stack : (os : LibOs) (c : Cont) (w w' : World) (r : Reply)
+    → FitsStage os w.objects c AllocateStack → IsSound w.objects
+    → Abi w (asked os c AllocateStack) r w' → HoldsQuietly os c AllocateStack w r w'
 keeps_allocate_stack os c w w' r fits sound abi =
     let p = file_or_child c in
-    let s = fits.child.memory in
-    let few = (run_size c fits.child.plain).few in
-    let none = first_held-none s STACK_PAGE STACK_PAGES (λ q low _. has_no_stack s (page_count c.bytes) 7 q fits.pages few low) in
-    let room : len s + STACK_PAGES ≤ 1024 = let held = fits.pages.held in omega arith in
+    let v = visible w in
+    let s = fits.made.memory in
+    let few = (run_size c fits.kept).few in
+    let none = first_held-none s STACK_PAGE STACK_PAGES
+    (λ q low _. has_no_stack s (page_count c.bytes) 7 q fits.made.holds few low) in
+    let room : len s + STACK_PAGES ≤ 1024 = let held = fits.made.holds.held in omega arith in
     let new = with_run s STACK_PAGE STACK_PAGES 3 in
-    let row : answer w (asked os c AllocateStack) r ≡ (Done, with_objects w (with_pages w.objects p new)) = ap (on_objects w) (allocate_row w.objects p s fits.child.child STACK_PAGE STACK_PAGES 3 refl refl none room) in
-    by_row os c AllocateStack w w' r (Done, with_objects w (with_pages w.objects p new)) abi row
-    (record {
-      fits = pages_go_on os w.objects c WriteBlock [] new 7 STACK_PAGES fits.child (pages_stacked s (page_count c.bytes) few fits.pages);
-      means = ap (λ m. begins_with w c (with_block m (arguments c))) (child_is w.objects p new)
-          ∙ sym (ap (λ m. begins_with w c (stacked m (arguments c))) (child_was w c s fits.child.child));
+    let o = with_pages w.objects p new in
+    let row : answer w (asked os c AllocateStack) r ≡ (Done, with_objects w o) =
+    ap (on_objects w) (allocate_row w.objects p s fits.made.child STACK_PAGE STACK_PAGES 3 refl refl none room) in
+    quietly_by_row os c AllocateStack w w' r Done o abi row (record {
+      fits = start_goes_on os w.objects c AllocateStack refl fits o WriteBlock c.bytes c.handles [] refl
+          (start_of os w.objects c AllocateStack refl fits).current
+          (FitsObjects-pages os w.objects p s new (kept_names c AllocateStack) fits.made.child fits.objects)
+          (λ other. absurd (cc)) fits.lists.handles refl fits.kept (record {
+            memory = new;
+            child = get-insert-same w.objects.live p (Process new None);
+            holds = pages_stacked s (page_count c.bytes) few fits.made.holds;
+          });
+      means = ap (λ m. settles (begins_with v c (with_block m (arguments c)))) (child_is w.objects p new)
+          ∙ sym (ap (λ m. settles (begins_with v c (stacked m (arguments c)))) (child_was v c s fits.made.child));
     })
 
-pub keeps_write_block : (os : LibOs) (c : Cont) (w w' : World) (r : Reply) → FitsStage os w.objects c WriteBlock → IsSound w.objects → Abi w (asked os c WriteBlock) r w' → Holds os c WriteBlock w r w'
+pub keeps_write_block : (os : LibOs) (c : Cont) (w w' : World) (r : Reply)
+    → FitsStage os w.objects c WriteBlock → IsSound w.objects
+    → Abi w (asked os c WriteBlock) r w' → HoldsQuietly os c WriteBlock w r w'
 keeps_write_block os c w w' r fits sound abi =
     let p = file_or_child c in
-    let s = fits.child.memory in
+    let v = visible w in
+    let s = fits.made.memory in
     let args = arguments c in
-    let names = fits.child.start.names in
-    let few = (run_size c fits.child.plain).few in
+    let names = names_of os w.objects c WriteBlock refl fits in
+    let few = (run_size c fits.kept).few in
     let block = block_stands args names.few names.args in
-    let free = first_fault-none s STACK_PAGE STACK_PAGES 3 2 (stack_pointer args) (length (argument_block args)) (λ q low high. has_stack s (page_count c.bytes) 7 q fits.pages few low high) refl block.above block.below in
+    let free = first_fault-none s STACK_PAGE STACK_PAGES 3 2 (stack_pointer args) (length (argument_block args))
+    (λ q low high. has_stack s (page_count c.bytes) 7 q fits.made.holds few low high) refl block.above block.below in
     let new = filled_from s (stack_pointer args) (argument_block args) in
-    let row : answer w (asked os c WriteBlock) r ≡ (Done, with_objects w (with_pages w.objects p new)) = ap (on_objects w) (write_row w.objects p s fits.child.child (stack_pointer args) (argument_block args) block.small free) in
-    by_row os c WriteBlock w w' r (Done, with_objects w (with_pages w.objects p new)) abi row
-    (record {
-      fits = (pages_go_on os w.objects c CreateThread [] new 7 STACK_PAGES fits.child (pages_filled s (with_bytes (memory_of s) (stack_pointer args) (argument_block args)) (page_count c.bytes) 7 STACK_PAGES fits.pages)).child;
-      means = ap (λ m. begins_with w c m) (child_is w.objects p new) ∙ sym (ap (λ m. begins_with w c (with_block m args)) (child_was w c s fits.child.child));
+    let o = with_pages w.objects p new in
+    let row : answer w (asked os c WriteBlock) r ≡ (Done, with_objects w o) =
+    ap (on_objects w) (write_row w.objects p s fits.made.child (stack_pointer args) (argument_block args) block.small free) in
+    quietly_by_row os c WriteBlock w w' r Done o abi row (record {
+      fits = start_goes_on os w.objects c WriteBlock refl fits o CreateThread c.bytes c.handles [] refl
+          (start_of os w.objects c WriteBlock refl fits).current
+          (FitsObjects-pages os w.objects p s new (kept_names c WriteBlock) fits.made.child fits.objects)
+          (λ other. absurd (cc)) fits.lists.handles refl fits.kept (record {
+            memory = new;
+            child = get-insert-same w.objects.live p (Process new None);
+            holds = tt;
+          });
+      means = ap (λ m. settles (begins_with v c m)) (child_is w.objects p new)
+          ∙ sym (ap (λ m. settles (begins_with v c (with_block m args))) (child_was v c s fits.made.child));
     })

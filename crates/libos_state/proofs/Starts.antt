@@ -1,120 +1,118 @@
--- What stays while a start goes on: the program and its arguments, no process or thread, and the open ends of the console.
-use Rattle.std.specs.Prelude.{◌≡◌, ℕ, ◌<◌, ◌≤◌, false, not, ◌==◌, List, [], ◌∷◌, ◌++◌, length, take, filter}
-use Rattle.std.specs.Ordering.{nat_cmp}
-use Rattle.std.specs.FinMap.{get, insert}
+-- What a start keeps while it goes on: its event, its names, and that nothing is recorded.
+use Rattle.std.specs.Prelude.{◌≡◌, ℕ, Bool, true, false, List, [], length}
 use Rattle.std.specs.declared.option.Option.TheVariants.{None, Some}
-use Rattle.std.proofs.Common.{refl, ap, arith}
-use Rattle.bas_names.specs.declared.StreamName.{StreamName}
-use Rattle.bas_names.specs.declared.StreamName.TheVariants as stream
-use Rattle.abi_calls.specs.declared.object.Object.TheVariants.{Stream}
-use Rattle.turn_sched.specs.Lists.{unless_ended}
-use Rattle.abi_calls.specs.Objects.{Object, Objects, Live, is_process, is_thread, with_object, without_handles}
-use Rattle.abi_calls.specs.Abi.{is_file}
-use Rattle.bas_items.proofs.NumberMaps.{get-insert-same}
+use Rattle.std.proofs.Common.{refl, sym, subst}
+use Rattle.abi_calls.specs.declared.threads.Upcall.{Upcall}
+use Rattle.abi_calls.specs.Objects.{Objects}
 use Rattle.libos_state.specs.declared.cont.Cont.{Cont}
+use Rattle.libos_state.specs.declared.cont.Event.{Event}
+use Rattle.libos_state.specs.declared.cont.Event.TheVariants as event
 use Rattle.libos_state.specs.declared.cont.Stage.{Stage}
+use Rattle.libos_state.specs.declared.cont.Stage.TheVariants.{SetContext, Resume, CloseHandles, ExitProcess, ReadBuffer, WriteStream}
+use Rattle.libos_state.specs.declared.state.Boot.{Boot}
 use Rattle.libos_state.specs.declared.state.LibOs.{LibOs}
-use Rattle.libos_state.specs.Pending.{console_name}
 use Rattle.libos_state.specs.Answered.{goes_on, starting}
-use Rattle.libos_state.specs.Fits.{FitsStart, FitsOpening, NoneLive, IsStream, Opened}
-use Rattle.libos_state.proofs.Keeping.{object_kept, none_set, none_without}
+use Rattle.libos_state.specs.Named.{kept_names, named_as, consoles}
+use Rattle.libos_state.specs.Fits.{FitsNone, FitsStage, FitsStart, FitsEvent, FitsObjects, FitsKept, FitsMade, FitsNames, AreNames, HasHandles, comes_to, ending_at, is_of_start, keeps_bytes, keeps_next, keeps_names, numbers_at}
+use Rattle.libos_state.proofs.Going.{with_service, FitsRecords-with_service, FitsObjects-with_service}
 
--- A start goes on where no thread is ready or current.
-pub start_goes_on : (os : LibOs) (o o' : Objects) (c : Cont) (stage : Stage) (bytes handles numbers : List ℕ) → FitsStart os o c → o'.lists.ready ≡ [] → o'.lists.current ≡ None →
-    FitsStart (goes_on os (starting c stage bytes handles numbers)) o' (starting c stage bytes handles numbers)
-start_goes_on os o o' c stage bytes handles numbers start ready current = record {
-  program = start.program;
-  args = start.args;
-  event = start.event;
-  going = start.going;
-  next_id = start.next_id;
-  processes = start.processes;
-  threads = start.threads;
-  descriptions = start.descriptions;
-  ready = ready;
-  current = current;
-  names = record { named = start.names.named; short = start.names.short; few = start.names.few; args = start.names.args };
-}
+-- No trap comes to a stage of a start.
+comes_to-start : (os : LibOs) (u : Upcall) (stage : Stage) → is_of_start stage ≡ true
+    → comes_to os u stage ≡ false
+comes_to-start os u SetContext starts = absurd (cc)
+comes_to-start os u Resume starts = absurd (cc)
+comes_to-start os u CloseHandles starts = absurd (cc)
+comes_to-start os u ExitProcess starts = absurd (cc)
+comes_to-start os u ReadBuffer starts = absurd (cc)
+comes_to-start os u WriteStream starts = absurd (cc)
+comes_to-start os u _ starts = refl
 
--- There is no process and no thread, and no list names one.
-pub record IsUnbegun (o : Objects) : Type 0 where
-  pub ready : o.lists.ready ≡ []
-  pub suspended : o.lists.suspended ≡ []
-  pub current : o.lists.current ≡ None
-  pub no_process : NoneLive is_process o.live
-  pub no_thread : NoneLive is_thread o.live
+keeps_next-start : (stage : Stage) → is_of_start stage ≡ true → keeps_next stage ≡ false
+keeps_next-start SetContext starts = absurd (cc)
+keeps_next-start Resume starts = absurd (cc)
+keeps_next-start _ starts = refl
 
-pub unbegun_opening : (os : LibOs) (o : Objects) (c : Cont) (count : ℕ) → FitsOpening os o c count → IsUnbegun o
-unbegun_opening os o c count fits = record {
-  ready = fits.start.ready;
-  suspended = fits.suspended;
-  current = fits.start.current;
-  no_process = fits.no_process;
-  no_thread = fits.no_thread;
-}
+ending_at-start : (c : Cont) (stage : Stage) → is_of_start stage ≡ true → ending_at c stage ≡ None
+ending_at-start c CloseHandles starts = absurd (cc)
+ending_at-start c ExitProcess starts = absurd (cc)
+ending_at-start c _ starts = refl
 
--- A stream is opened.
-pub unbegun_opened : (o : Objects) (h : ℕ) (name : StreamName) → IsUnbegun o → IsUnbegun (with_object o h (Stream name))
-unbegun_opened o h name unbegun = record {
-  ready = unbegun.ready;
-  suspended = unbegun.suspended;
-  current = unbegun.current;
-  no_process = none_set is_process o.live h (Stream name) refl unbegun.no_process;
-  no_thread = none_set is_thread o.live h (Stream name) refl unbegun.no_thread;
-}
+names_where : (c : Cont) (kept : Bool) → kept ≡ true → AreNames c kept → FitsNames c
+names_where c true is names = names
+names_where c false is names = absurd (cc)
 
--- A handle ends.
-pub unbegun_closed : (o : Objects) (h : ℕ) → IsUnbegun o → IsUnbegun (without_handles o (λ k. k == h))
-unbegun_closed o h unbegun = record {
-  ready = ap (filter (λ k. not (k == h))) unbegun.ready;
-  suspended = ap (filter (λ k. not (k == h))) unbegun.suspended;
-  current = ap (unless_ended (λ k. k == h)) unbegun.current;
-  no_process = none_without is_process o (λ k. k == h) unbegun.no_process;
-  no_thread = none_without is_thread o (λ k. k == h) unbegun.no_thread;
-}
+-- What a stage of a start serves is a start.
+pub FitsStart-event : (os : LibOs) (o : Objects) (e : Event) (stage : Stage)
+    → is_of_start stage ≡ true → FitsEvent os o e stage → FitsStart os o stage
+FitsStart-event os o (event.Boot program args) stage starts fits = fits
+FitsStart-event os o (event.Up u) stage starts fits =
+    absurd (let e = fits.comes in let none = comes_to-start os u stage starts in cc)
 
--- The start goes on with these handles.
-pub opening_goes_on : (os : LibOs) (o o' : Objects) (c : Cont) (stage : Stage) (bytes handles numbers : List ℕ) (count : ℕ) → FitsStart os o c → IsUnbegun o' → length handles ≡ count → Opened o'.live handles →
-    FitsOpening (goes_on os (starting c stage bytes handles numbers)) o' (starting c stage bytes handles numbers) count
-opening_goes_on os o o' c stage bytes handles numbers count start unbegun long opened = record {
-  start = start_goes_on os o o' c stage bytes handles numbers start unbegun.ready unbegun.current;
-  suspended = unbegun.suspended;
-  no_process = unbegun.no_process;
-  no_thread = unbegun.no_thread;
-  count = long;
-  opened = opened;
-}
+FitsEvent-start : (os os' : LibOs) (o o' : Objects) (e : Event) (stage next : Stage)
+    → is_of_start stage ≡ true → FitsEvent os o e stage → FitsStart os' o' next
+    → FitsEvent os' o' e next
+FitsEvent-start os os' o o' (event.Boot program args) stage next starts fits start = start
+FitsEvent-start os os' o o' (event.Up u) stage next starts fits start =
+    absurd (let e = fits.comes in let none = comes_to-start os u stage starts in cc)
 
--- The ends of the console stay open where each stream that is no file's stays.
-pub opened_kept : (live live' : Live) (handles : List ℕ) → ((a : ℕ) (name : StreamName) → is_file (Some (Stream name)) ≡ false → IsStream live name a → IsStream live' name a) → Opened live handles → Opened live' handles
-opened_kept live live' [] keeps opened = tt
-opened_kept live live' (a ∷ []) keeps opened = keeps a stream.ConIn refl opened
-opened_kept live live' (a ∷ b ∷ []) keeps opened = (keeps a stream.ConIn refl opened.0, keeps b stream.ConOut refl opened.1)
-opened_kept live live' (a ∷ b ∷ c ∷ rest) keeps opened =
-    (keeps a stream.ConIn refl opened.0, keeps b stream.ConOut refl opened.1, keeps c stream.ConErr refl opened.2)
+module _ (os : LibOs) (o : Objects) (c : Cont) (stage : Stage) (starts : is_of_start stage ≡ true)
+    (fits : FitsStage os o c stage) where
+  pub start_of : FitsStart os o stage
+  start_of = FitsStart-event os o c.event stage starts fits.event
 
--- An object comes at a number of none.
-pub opened_with : (live : Live) (handles : List ℕ) (h : ℕ) (x : Object) → get {R = nat_cmp} live h ≡ None → Opened live handles → Opened (insert live h x) handles
-opened_with live handles h x free opened = opened_kept live (insert live h x) handles (λ a name _ there. object_kept live h a (Stream name) x free there) opened
+  pub names_of : FitsNames c
+  names_of = names_where c (keeps_names stage) starts fits.names
 
--- The next end is opened.
-pub opened_more : (live : Live) (handles : List ℕ) (h : ℕ) → get {R = nat_cmp} live h ≡ None → length handles < 3 → Opened live handles →
-    Opened (insert live h (Stream (console_name (length handles)))) (handles ++ h ∷ [])
-opened_more live [] h free few opened = get-insert-same live h (Stream stream.ConIn)
-opened_more live (a ∷ []) h free few opened = (object_kept live h a (Stream stream.ConIn) (Stream stream.ConOut) free opened, get-insert-same live h (Stream stream.ConOut))
-opened_more live (a ∷ b ∷ []) h free few opened =
-    (object_kept live h a (Stream stream.ConIn) (Stream stream.ConErr) free opened.0, object_kept live h b (Stream stream.ConOut) (Stream stream.ConErr) free opened.1, get-insert-same live h (Stream stream.ConErr))
-opened_more live (a ∷ b ∷ c ∷ rest) h free few opened = absurd (omega arith)
+  -- The start goes on at another stage, over objects that it fits.
+  pub start_goes_on : (o' : Objects) (next : Stage) (bytes handles numbers : List ℕ)
+      → is_of_start next ≡ true → o'.lists.current ≡ None
+      → FitsObjects os o' (kept_names (starting c next bytes handles numbers) next) None
+      → (keeps_bytes next ≡ false → bytes ≡ []) → HasHandles next handles
+      → length numbers ≡ numbers_at next
+      → FitsKept (goes_on os (starting c next bytes handles numbers))
+      (starting c next bytes handles numbers) next
+      → FitsMade o' (starting c next bytes handles numbers) next
+      → FitsStage (goes_on os (starting c next bytes handles numbers)) o'
+      (starting c next bytes handles numbers) next
+  start_goes_on o' next bytes handles numbers onward current objects read held many kept made =
+      let c' = starting c next bytes handles numbers in
+      let os' = goes_on os c' in
+      record {
+        records = FitsRecords-with_service os os.boot (Some c') fits.records;
+        objects = subst (FitsObjects os' o' (kept_names c' next)) (sym (ending_at-start c' next onward))
+            (FitsObjects-with_service os os.boot (Some c') o' (kept_names c' next) None objects);
+        event = FitsEvent-start os os' o o' c.event stage next starts fits.event (record {
+          going = start_of.going;
+          next_id = start_of.next_id;
+          processes = start_of.processes;
+          threads = start_of.threads;
+          descriptions = start_of.descriptions;
+          current = current;
+          starts = onward;
+        });
+        lists = record {
+          next = λ _. fits.lists.next (keeps_next-start stage starts);
+          names = λ none. absurd (cc);
+          bytes = read;
+          handles = held;
+          numbers = many;
+        };
+        names = subst (AreNames c') (sym onward) (record { some = names_of.some; named = names_of.named; short = names_of.short; few = names_of.few; args = names_of.args });
+        kept = kept;
+        made = made;
+      }
 
--- Handles behind those of the console.
-pub opened_longer : (live : Live) (handles more : List ℕ) → 3 ≤ length handles → Opened live handles → Opened live (handles ++ more)
-opened_longer live [] more long opened = absurd (omega arith)
-opened_longer live (a ∷ []) more long opened = absurd (omega arith)
-opened_longer live (a ∷ b ∷ []) more long opened = absurd (omega arith)
-opened_longer live (a ∷ b ∷ c ∷ rest) more long opened = opened
-
-pub opened_front : (live : Live) (handles : List ℕ) → 3 ≤ length handles → Opened live handles → Opened live (take 3 handles)
-opened_front live [] long opened = absurd (omega arith)
-opened_front live (a ∷ []) long opened = absurd (omega arith)
-opened_front live (a ∷ b ∷ []) long opened = absurd (omega arith)
-opened_front live (a ∷ b ∷ c ∷ rest) long opened = opened
+  -- The start ends without a program, with the ends of the console open.
+  pub start_stops : (o' : Objects) (boot : Boot) (handles : List ℕ)
+      → o'.lists.current ≡ None → length handles ≡ length consoles
+      → FitsObjects os o' (named_as handles consoles) None
+      → FitsNone (with_service os boot None) o'
+  start_stops o' boot handles current held objects = record {
+    processes = start_of.processes;
+    threads = start_of.threads;
+    descriptions = start_of.descriptions;
+    handles = handles;
+    all = held;
+    objects = FitsObjects-with_service os boot None o' (named_as handles consoles) None objects;
+    current = current;
+  }

@@ -1,280 +1,292 @@
--- A turn of a world that the idle library OS fits, beside a turn of the machine.
-use Rattle.std.specs.Prelude.{◌≡◌, ℕ, ◌%◌, Bool, true, false, not, filter, List, [], ◌∷◌, ◌++◌, cond, map, length, slice_get, is_some, unwrap_or, remove as remove_at}
-use Rattle.std.specs.Ordering.{nat_cmp}
-use Rattle.std.specs.FinMap.{get, insert, empty}
+-- A turn of a world that a library OS with nothing in progress fits, beside a turn of the machine.
+use Rattle.std.specs.Prelude.{◌≡◌, ℕ, ◌%◌, ◌≤◌, ◌==◌, Bool, true, false, not, ◌&&◌, cond, List, [], ◌∷◌, ◌++◌, map, filter, slice_get, is_some, remove as remove_at}
+use Rattle.std.specs.List.{list_any}
+use Rattle.std.specs.Option.{option_map}
 use Rattle.std.specs.declared.option.Option.{Option}
 use Rattle.std.specs.declared.option.Option.TheVariants.{None, Some}
-use Rattle.std.proofs.Common.{refl, sym, ap, subst, ◌∙◌, arith, eq-eqb, append-nil}
+use Rattle.std.proofs.Common.{refl, sym, ap, subst, ◌∙◌, arith, eq-eqb, eqb-true, inl, inr}
 use Rattle.rv_core.specs.declared.context.Context.{Context}
 use Rattle.guest_space.specs.Space.{Space}
 use Rattle.guest_space.specs.Running.{Ran as Run, run_space}
-use Rattle.turn_sched.specs.Lists.{Waiting, with_ready, times, waiting_threads, standings}
-use Rattle.turn_sched.proofs.ThreadLists.{nil-none, times-one}
-use Rattle.abi_calls.specs.declared.object.Object.TheVariants.{Process, Thread, Event, Stream, ReadEnd, WriteEnd}
+use Rattle.turn_sched.specs.Lists.{Waiting, with_ready, picked_place, picked_by}
+use Rattle.abi_calls.specs.declared.object.Object.TheVariants.{Process, Thread}
 use Rattle.abi_calls.specs.declared.threads.Turned.{Turned}
 use Rattle.abi_calls.specs.declared.threads.Turned.TheVariants.{Ran, Idle, Stuck, Exception}
 use Rattle.abi_calls.specs.declared.threads.Upcall.{Upcall}
-use Rattle.abi_calls.specs.Objects.{Object, Objects, Live, object_at, running, is_some_thread, with_lists}
-use Rattle.abi_calls.specs.World.{World, with_objects}
+use Rattle.abi_calls.specs.Objects.{Objects, object_at, running, is_thread_of, with_object, with_lists}
 use Rattle.abi_calls.specs.Sound.{IsSound}
-use Rattle.abi_calls.specs.Turn.{world_turn, turn_of_pick, run_in, run_end, with_run_of, with_pick, pick_of, with_due_ready, is_due}
-use Rattle.abi_calls.specs.Turn as host
+use Rattle.abi_calls.specs.Turn.{world_turn, run_end, with_run_of, with_pick, with_turn, pick_of, with_due_ready, is_due, idle_turn}
+use Rattle.abi_calls.proofs.Facts.{RunsIn}
+use Rattle.abi_calls.proofs.TurnFacts.{world_turn-runs, world_turn-cases, home_apart}
+use Rattle.abi_calls.proofs.Sounds.{IsSound-with_due_ready}
 use Rattle.bas_items.proofs.NumberMaps.{get-insert-same, get-insert-other}
-use Rattle.mono_model.specs.Machine.{Mono, thread_at, with_thread, made_ready}
-use Rattle.mono_model.specs.Calls.{served, memory_at}
+use Rattle.mono_model.specs.Machine.{Mono, process_at, with_context, made_ready}
+use Rattle.mono_model.specs.Calls.{Trap, Served, silently, served, memory_at, memory_in}
 use Rattle.mono_model.specs.Turns as machine
-use Rattle.mono_model.specs.Turns.{turn_of, turn_at, with_run, with_memory_in, after_run}
-use Rattle.libos_state.specs.declared.notes.ProcessNote.{ProcessNote}
+use Rattle.mono_model.specs.Turns.{turn_of, turn_of_pick, awoken, is_stuck, is_nobody, waits_for_time, pick_word, after_run, with_memory_in}
 use Rattle.libos_state.specs.declared.notes.ThreadNote.{ThreadNote}
 use Rattle.libos_state.specs.declared.state.LibOs.{LibOs}
-use Rattle.libos_state.specs.Records.{base, memory_of_object, context_of, process_if, threads_of, tids_of}
-use Rattle.libos_state.specs.Entered.{entered_with}
-use Rattle.libos_state.specs.Meaning.{caller_in}
-use Rattle.libos_state.specs.Fits.{FitsRecords, FitsIdle, FitsServed, IsLoneThread, is_closable}
-use Rattle.libos_state.proofs.Bases.{processes_set, threads_set, tids_one, process_there, memory_there, thread_there}
-use Rattle.libos_state.proofs.Idle.{idle_ready}
-use Rattle.libos_state.proofs.Keeping.{IsLoneThread-insert}
-use Rattle.libos_state.proofs.Served.{Running, running_of, records_over, process_apart, closable_apart, closable_apart_process, caller_thread, caller_process}
+use Rattle.libos_state.specs.Records.{Visible, with_visible, base, thread_with, thread_seen, process_if, memory_of_object, context_of, tids_of, tid_of, pid_of}
+use Rattle.libos_state.specs.Meaning.{caller_of}
+use Rattle.libos_state.specs.Named.{recorded, times_named}
+use Rattle.libos_state.specs.Fits.{FitsObjects, FitsUp, is_to_name}
+use Rattle.libos_state.specs.Turned.{TurnsTo}
+use Rattle.libos_state.proofs.Distinct.{some_of}
+use Rattle.libos_state.proofs.Naming.{Linked, linked, find-passes, times_named-most, FitsObjects-same, FitsObjects-changed, Alike, Alike-thread, Alike-process}
+use Rattle.libos_state.proofs.Bases.{process_at-found, thread_at-found, base-with_context, base-with_memory, base-with_ready, are_recorded}
+use Rattle.libos_state.proofs.Waking.{thread_recorded, base-with_due_ready, are_recorded-ready, waits_for_time-base, tids_of-length, tids_of-place, tids_of-remove}
 
--- Nobody waits: one who did would be the one live thread, which stands in the ready list alone.
-none_wait : (ws : List Waiting) → map (λ w. w.thread) ws ≡ [] → ws ≡ []
-none_wait [] none = refl
-none_wait (w ∷ ws) none = absurd (cc)
+-- ---- nobody is ready
 
-thread_of : (x : Option Object) → is_some_thread x ≡ true → (p : ℕ) × (context : Context) × (x ≡ Some (Thread p context))
-thread_of (Some (Thread p context)) is = (p, context, refl)
-thread_of (Some (Process memory code)) is = absurd (cc)
-thread_of (Some (Event set)) is = absurd (cc)
-thread_of (Some (Stream name)) is = absurd (cc)
-thread_of (Some (ReadEnd pipe)) is = absurd (cc)
-thread_of (Some (WriteEnd pipe)) is = absurd (cc)
-thread_of None is = absurd (cc)
-
-pub waiting-idle : (os : LibOs) (o : Objects) → FitsIdle os o → IsSound o → o.lists.waiting ≡ []
-waiting-idle os o fits sound =
-    let h = fits.thread.handle in
-    let lone : (t : ℕ) → is_some_thread (object_at o t) ≡ true → t ≡ h = λ t is. let x = thread_of (object_at o t) is in fits.records.alone t x.0 x.1 x.2 in
-    none_wait o.lists.waiting (nil-none (waiting_threads o.lists) (λ t. nowhere t (is_some_thread (object_at o t)) refl (lone t)))
+none_woken : (due : Waiting → Bool) (ready : List ℕ) (ws : List Waiting) → ready ++ map (λ v. v.thread) (filter due ws) ≡ [] → (ready ≡ []) × (filter due ws ≡ [])
+none_woken due (t ∷ ready) ws none = absurd (cc)
+none_woken due [] ws none = (refl, nothing (filter due ws) none)
   where
-    nowhere : (t : ℕ) (b : Bool) → is_some_thread (object_at o t) ≡ b → (is_some_thread (object_at o t) ≡ true → t ≡ fits.thread.handle) → times t (waiting_threads o.lists) ≡ 0
-    nowhere t false is lone = let none : standings o.lists t ≡ 0 = sound.standing t ∙ ap (λ b. cond b 1 0) is in omega arith
-    nowhere t true is lone =
-        let once : standings o.lists t ≡ 1 = sound.standing t ∙ ap (λ b. cond b 1 0) is in
-        let ready : times t o.lists.ready ≡ 1 = ap (times t) fits.ready ∙ times-one t fits.thread.handle ∙ ap (λ b. cond b 1 0) (eq-eqb fits.thread.handle t (sym (lone is))) in
-        omega arith
+    nothing : (vs : List Waiting) → map (λ v. v.thread) vs ≡ [] → vs ≡ []
+    nothing [] none = refl
+    nothing (v ∷ vs) none = absurd (cc)
 
-with_due_ready-none : (o : Objects) → o.lists.waiting ≡ [] → with_due_ready o ≡ o
-with_due_ready-none o none =
-    let ready = ap (λ ws. o.lists.ready ++ map (λ w. w.thread) (filter (is_due o) ws)) none ∙ append-nil o.lists.ready in
-    let waiting : filter (λ w. not (is_due o w)) o.lists.waiting ≡ o.lists.waiting = ap (filter (λ w. not (is_due o w))) none ∙ sym none in
+all_stay : (due : Waiting → Bool) (ws : List Waiting) → filter due ws ≡ [] → filter (λ v. not (due v)) ws ≡ ws
+all_stay due [] none = refl
+all_stay due (v ∷ ws) none = elim (due v) as (λ b. cond b (v ∷ filter due ws) (filter due ws) ≡ [] → cond (not b) (v ∷ filter (λ j. not (due j)) ws) (filter (λ j. not (due j)) ws) ≡ v ∷ ws) [
+  | true ↦ λ some. absurd (cc)
+  | false ↦ λ rest. ap (λ vs. v ∷ vs) (all_stay due ws rest)
+] none
+
+-- Where nobody is ready once those that are due are, nobody was due.
+with_due_ready-nobody : (o : Objects) → (with_due_ready o).lists.ready ≡ [] → with_due_ready o ≡ o
+with_due_ready-nobody o none =
+    let parts = none_woken (is_due o) o.lists.ready o.lists.waiting none in
+    let ready = none ∙ sym parts.0 in
+    let waiting = all_stay (is_due o) o.lists.waiting parts.1 in
     λ i. record o { lists = record o.lists { ready = ready i; waiting = waiting i } }
 
--- The one ready thread is picked.
-pick_first : (x h : ℕ) (ready : List ℕ) → ready ≡ h ∷ [] → x % length ready ≡ 0
-pick_first x h ready is = let one : x % 1 ≡ 0 = omega arith in ap (λ hs. x % length hs) is ∙ one
+module _ (os : LibOs) (w : Visible) (fits : FitsUp os w.objects) (sound : IsSound w.objects) where
+  abbrev awake : Objects
+  awake = with_due_ready w.objects
 
-first_there : (h place : ℕ) (ready : List ℕ) → ready ≡ h ∷ [] → place ≡ 0 → slice_get ready place ≡ Some h
-first_there h place ready is first = λ i. slice_get (is i) (first i)
+  awake_sound : IsSound awake
+  awake_sound = IsSound-with_due_ready w.objects sound
 
-first_left : (h place : ℕ) (ready : List ℕ) → ready ≡ h ∷ [] → place ≡ 0 → remove_at ready place ≡ []
-first_left h place ready is first = λ i. remove_at (is i) (first i)
+  awake_objects : FitsObjects os awake [] None
+  awake_objects = FitsObjects-same os w.objects awake [] None (λ q. refl) fits.objects
 
--- What a trap leaves: the library OS can serve it, and serving it is the machine's turn.
-pub record Traps (os : LibOs) (w : World) (u : Upcall) (o : Objects) : Type 0 where
-  pub fits : FitsServed os o (entered_with u)
-  pub turns : served (base os (with_objects w o)) (caller_in os (entered_with u)) u.cause ≡ turn_of (base os w)
+  -- the machine with those that are due ready
+  abbrev woken : Visible
+  woken = with_visible w awake
 
-pub record Rans (os : LibOs) (w : World) (o : Objects) : Type 0 where
-  pub fits : FitsIdle os o
-  pub turns : base os (with_objects w o) ≡ turn_of (base os w)
+  abbrev m : Mono
+  m = base os woken
 
--- What a turn leaves, by how it ends.
-abbrev pub TurnsTo : LibOs → World → Turned → Objects → Type 0
-TurnsTo os w Ran o = Rans os w o
-TurnsTo os w Idle o = ⊥
-TurnsTo os w Stuck o = ⊥
-TurnsTo os w (Exception u) o = Traps os w u o
+  awoken_is : awoken (base os w) ≡ m
+  awoken_is = base-with_due_ready os w fits.records fits.objects sound
 
-module _ (os : LibOs) (w : World) (fits : FitsIdle os w.objects) (sound : IsSound w.objects) where
-  abbrev thread : ThreadNote
-  thread = fits.thread
+  stuck_is : is_stuck (base os w) ≡ (is_nobody m.lists.ready && not (waits_for_time m))
+  stuck_is = ap (λ a. is_nobody a.lists.ready && not (waits_for_time a)) awoken_is
 
-  abbrev process : ProcessNote
-  process = fits.process
+  abbrev turn_from : Mono → Served
+  turn_from a = turn_of_pick a (picked_by (pick_word a) a.lists)
 
-  abbrev place : ℕ
-  place = pick_of w.objects
-
-  first : place ≡ 0
-  first = pick_first _ thread.handle w.objects.lists.ready fits.ready
-
-  runs : Running (object_at w.objects process.handle)
-  runs = running_of (object_at w.objects process.handle) fits.records.memory
-
-  abbrev run : Run
-  run = run_space w.objects.settings.slice fits.records.context runs.space
-
-  abbrev after : Objects
-  after = with_run_of (with_pick w.objects place) thread.handle process.handle run
-
-  -- the world's turn is a run of the thread
-  turned_is : world_turn w.objects ≡ run_end after thread.handle process.handle run.context run.trap
-  turned_is =
-      ap (λ a. turn_of_pick a (pick_of a) (slice_get a.lists.ready (pick_of a))) (with_due_ready-none w.objects (waiting-idle os w.objects fits sound))
-      ∙ ap (turn_of_pick w.objects place) (first_there thread.handle place w.objects.lists.ready fits.ready first)
-      ∙ ap (host.run_thread (with_pick w.objects place) thread.handle) fits.records.object
-      ∙ ap (run_in (with_pick w.objects place) thread.handle process.handle fits.records.context) runs.runs
-
-  -- the objects after the run
-  abbrev ran_process : Live
-  ran_process = insert w.objects.live process.handle (Process run.space None)
-
-  after_thread : get {R = nat_cmp} after.live thread.handle ≡ Some (Thread process.handle run.context)
-  after_thread = get-insert-same ran_process thread.handle (Thread process.handle run.context)
-
-  after_process : get {R = nat_cmp} after.live process.handle ≡ Some (Process run.space None)
-  after_process = get-insert-other ran_process thread.handle (Thread process.handle run.context) process.handle (process_apart os w.objects.live process thread fits.records)
-      ∙ get-insert-same w.objects.live process.handle (Process run.space None)
-
-  after_closable : (h : ℕ) → is_closable (get {R = nat_cmp} w.objects.live h) ≡ true → get {R = nat_cmp} after.live h ≡ get {R = nat_cmp} w.objects.live h
-  after_closable h closable =
-      get-insert-other ran_process thread.handle (Thread process.handle run.context) h (closable_apart os w.objects.live process thread fits.records h closable)
-      ∙ get-insert-other w.objects.live process.handle (Process run.space None) h (closable_apart_process os w.objects.live process thread fits.records h closable)
-
-  after_alone : IsLoneThread after.live thread.handle
-  after_alone =
-      IsLoneThread-insert thread.handle thread.handle (Thread process.handle run.context) (λ _ _ _. refl) ran_process
-      (IsLoneThread-insert thread.handle process.handle (Process run.space None) (λ _ _ other. absurd (cc)) w.objects.live fits.records.alone)
-
-  after_ready : after.lists.ready ≡ []
-  after_ready = first_left thread.handle place w.objects.lists.ready fits.ready first
-
-  after_records : FitsRecords os after.live process thread
-  after_records = records_over os os.cont w.objects.live after.live process thread run.context fits.records (ap (λ x. is_some (running x)) after_process) after_thread after_alone after_closable
-
-  -- the machine's turn is the same run
-  abbrev machine_place : ℕ
-  machine_place = machine.pick_of (base os w)
-
-  machine_ready : (base os w).ready ≡ thread.tid ∷ []
-  machine_ready = idle_ready os w fits
-
-  machine_first : machine_place ≡ 0
-  machine_first = pick_first _ thread.tid (base os w).ready machine_ready
-
-  abbrev ran : Space → Mono
-  ran space =
-      let r = run_space w.objects.settings.slice fits.records.context space in
-      after_run (with_run (machine.picked (base os w) machine_place) thread.tid process.pid r) thread.tid process.pid r.context r.trap
-
-  machine_thread : thread_at (base os w) thread.tid ≡ Some (record { process = process.pid; context = fits.records.context })
-  machine_thread = thread_there os w thread fits.records.threads ∙ (λ i. Some (record { process = fits.records.home i; context = context_of (fits.records.object i) }))
-
-  machine_memory : memory_at (base os w) process.pid ≡ runs.space
-  machine_memory = memory_there os w process fits.records.processes fits.records.alive ∙ ap (λ m. unwrap_or m empty) runs.runs
-
-  turn_is : turn_of (base os w) ≡ ran runs.space
+  turn_is : turn_of (base os w) ≡ turn_from m
   unfolding turn_of
-  turn_is =
-      ap (turn_at (base os w) machine_place) (first_there thread.tid machine_place (base os w).ready machine_ready machine_first)
-      ∙ ap (machine.run_thread (machine.picked (base os w) machine_place) thread.tid) machine_thread
-      ∙ ap ran machine_memory
+  turn_is = ap turn_from awoken_is
 
-  -- and so is what it leaves
-  after_base : base os (with_objects w after) ≡ with_run (machine.picked (base os w) machine_place) thread.tid process.pid run
-  after_base =
-      let m = machine.picked (base os w) machine_place in
-      let ps = processes_set os.processes process run.space w.objects.live after.live fits.records.processes fits.records.alive (ap memory_of_object after_process) in
-      let ts = threads_set os.threads thread process.handle run.context w.objects.live after.live fits.records.threads after_thread
-      ∙ ap (λ p. insert (threads_of os.threads w.objects.live) thread.tid (record { process = p; context = run.context })) fits.records.home in
-      let rs = ap (tids_of os.threads) after_ready ∙ sym (first_left thread.tid machine_place (base os w).ready machine_ready machine_first) in
-      let now : Mono = record m { processes = insert (base os w).processes process.pid (process_if None run.space process.descriptors) } in
-      let set : base os (with_objects w after) ≡ with_thread now thread.tid (record { process = process.pid; context = run.context }) =
-      λ i. record m { processes = ps i; threads = ts i; ready = rs i } in
-      set ∙ sym (ap (λ x. with_thread (with_memory_in m process.pid run.space x) thread.tid (record { process = process.pid; context = run.context }))
-      (process_there os w process fits.records.processes fits.records.alive))
+  -- ---- idle and stuck
+  module _ (nobody : awake.lists.ready ≡ []) where
+    no_tids : m.lists.ready ≡ []
+    no_tids = ap (tids_of os.threads) nobody
 
-  -- without a trap the thread is ready again
-  abbrev again : Objects
-  again = with_lists after (with_ready after.lists thread.handle)
+    waits_alike : waits_for_time m ≡ list_any (λ v. is_some v.deadline) awake.lists.waiting
+    waits_alike = waits_for_time-base os woken fits.records awake_objects awake_sound
 
-  again_ready : again.lists.ready ≡ thread.handle ∷ []
-  again_ready = ap (λ xs. xs ++ thread.handle ∷ []) after_ready
+    idle_is : turn_of (base os w) ≡ silently (cond (waits_for_time m) (machine.with_turn m) m)
+    idle_is = turn_is ∙ ap (λ ts. turn_of_pick m (slice_get ts (picked_place (pick_word m) m.lists))) no_tids
 
-  again_base : base os (with_objects w again) ≡ made_ready (base os (with_objects w after)) thread.tid
-  again_base =
-      let rs : tids_of os.threads (after.lists.ready ++ thread.handle ∷ []) ≡ tids_of os.threads after.lists.ready ++ thread.tid ∷ [] =
-      ap (tids_of os.threads) again_ready ∙ tids_one os.threads thread thread.handle fits.records.threads refl
-      ∙ ap (λ hs. tids_of os.threads hs ++ thread.tid ∷ []) (sym after_ready) in
-      λ i. record (base os (with_objects w after)) { ready = rs i }
+    up_after : (o : Objects) → ((q : ℕ) → object_at o q ≡ object_at w.objects q) → o.lists.current ≡ None → FitsUp os o
+    up_after o same current = record {
+      records = fits.records;
+      first = fits.first;
+      objects = FitsObjects-same os w.objects o [] None same fits.objects;
+      current = current;
+    }
 
-  ran_again : run.trap ≡ None → Rans os w again
-  ran_again none = record {
-    fits = record {
-      up = fits.up;
-      process = process;
-      thread = thread;
-      records = after_records;
-      ready = again_ready;
-      suspended = fits.suspended;
-      current = fits.current;
-    };
-    turns = again_base ∙ ap (λ m. made_ready m thread.tid) after_base
-        ∙ sym (turn_is ∙ ap (after_run (with_run (machine.picked (base os w) machine_place) thread.tid process.pid run) thread.tid process.pid run.context) none);
-  }
+    idle_or_stuck : (b : Bool) → list_any (λ (v : Waiting). is_some v.deadline) awake.lists.waiting ≡ b
+        → (let x : Turned × Objects = cond b (Idle, with_turn awake) (Stuck, awake) in TurnsTo os w x.0 x.1)
+    idle_or_stuck true waits = (
+      up_after (with_turn awake) (λ q. refl) fits.current,
+      stuck_is ∙ (λ i. is_nobody (no_tids i) && not ((waits_alike ∙ waits) i)),
+      idle_is ∙ ap (λ b. silently (cond b (machine.with_turn m) m)) (waits_alike ∙ waits),
+    )
+    idle_or_stuck false waits = (
+      stuck_is ∙ (λ i. is_nobody (no_tids i) && not ((waits_alike ∙ waits) i)),
+      with_due_ready-nobody w.objects nobody,
+    )
 
-  -- with one it is current, and the trap is served
-  abbrev trap_of : ℕ × ℕ → Upcall
-  trap_of trap = record { process = process.handle; thread = thread.handle; cause = trap.0; value = trap.1; context = run.context }
+    turns_idle : world_turn w.objects ≡ idle_turn awake → TurnsTo os w (world_turn w.objects).0 (world_turn w.objects).1
+    turns_idle is = subst (λ (x : Turned × Objects). TurnsTo os w x.0 x.1) (sym is) (idle_or_stuck (list_any (λ (v : Waiting). is_some v.deadline) awake.lists.waiting) refl)
 
-  abbrev stopped : Objects
-  stopped = with_lists after (record after.lists { current = Some thread.handle })
+  -- ---- a thread runs
+  module _ (t : ℕ) (at : slice_get awake.lists.ready (pick_of awake) ≡ Some t) (n : ThreadNote) (found : thread_with t os.threads ≡ Some n) where
+    abbrev place : ℕ
+    place = pick_of awake
 
-  abbrev trap_fits : (trap : ℕ × ℕ) → FitsServed os stopped (entered_with (trap_of trap))
-  trap_fits trap = record {
-    upcall = trap_of trap;
-    event = refl;
-    up = fits.up;
-    process = process;
-    thread = thread;
-    records = after_records;
-    of_process = refl;
-    of_thread = refl;
-    ready = after_ready;
-    suspended = fits.suspended;
-    current = refl;
-  }
+    links : Linked os awake n
+    links = linked os awake [] None fits.records awake_objects t n found
 
-  ran_trapped : (trap : ℕ × ℕ) → run.trap ≡ Some trap → Traps os w (trap_of trap) stopped
-  ran_trapped trap is =
-      let c = entered_with (trap_of trap) in
-      let who : caller_in os c ≡ record { thread = thread.tid; process = process.pid; context = run.context } =
-      λ i. record { thread = caller_thread os stopped c (trap_fits trap) i; process = caller_process os stopped c (trap_fits trap) i; context = run.context } in
+    handle_is : n.handle ≡ t
+    handle_is = eqb-true n.handle t (find-passes (λ j. j.handle == t) os.threads n found)
+
+    abbrev p : ℕ
+    p = links.process.handle
+
+    runs : RunsIn awake t p links.context links.memory
+    runs = record { thread = ap (object_at awake) (sym handle_is) ∙ links.there; process = ap running links.runs }
+
+    abbrev run : Run
+    run = run_space w.objects.settings.slice links.context links.memory
+
+    abbrev picked : Objects
+    picked = with_pick awake place
+
+    abbrev after : Objects
+    after = with_run_of picked t p run
+
+    turned_is : world_turn w.objects ≡ run_end after t p run.context run.trap
+    turned_is = world_turn-runs w.objects t p links.context links.memory at runs
+
+    -- the records go on fitting
+    mid_thread : object_at (with_object picked p (Process run.space None)) t ≡ Some (Thread p links.context)
+    mid_thread = get-insert-other awake.live p (Process run.space None) t (home_apart awake t p links.context links.memory runs) ∙ runs.thread
+
+    after_objects : FitsObjects os after [] None
+    after_objects =
+        let mid = with_object picked p (Process run.space None) in
+        let on_process = subst (λ x. Alike x (Some (Process run.space None))) (sym links.runs) (Alike-process links.memory run.space) in
+        let on_thread = subst (λ x. Alike x (Some (Thread p run.context))) (sym mid_thread) (Alike-thread p links.context run.context) in
+        let fits_picked = FitsObjects-same os awake picked [] None (λ q. refl) awake_objects in
+        let fits_mid = FitsObjects-changed os picked p (Process run.space None) [] None on_process (ap (is_to_name None) (sym links.runs)) fits_picked in
+        FitsObjects-changed os mid t (Thread p run.context) [] None on_thread (ap (is_to_name None) (sym mid_thread)) fits_mid
+
+    after_thread : object_at after t ≡ Some (Thread p run.context)
+    after_thread = get-insert-same (with_object picked p (Process run.space None)).live t (Thread p run.context)
+
+    -- the machine picks the same thread
+    all_recorded : are_recorded os.threads awake.lists.ready ≡ true
+    all_recorded = are_recorded-ready os woken fits.records awake_objects awake_sound
+
+    abbrev machine_place : ℕ
+    machine_place = picked_place (pick_word m) m.lists
+
+    place_is : machine_place ≡ place
+    place_is = ap (λ k. pick_word m % k) (tids_of-length os.threads awake.lists.ready all_recorded)
+
+    picked_is : picked_by (pick_word m) m.lists ≡ Some n.tid
+    picked_is =
+        ap (slice_get m.lists.ready) place_is ∙ tids_of-place os.threads awake.lists.ready all_recorded place
+        ∙ ap (option_map (λ h. tid_of (thread_with h os.threads))) at ∙ ap (λ x. Some (tid_of x)) found
+
+    abbrev machine_picked : Mono
+    machine_picked = base os (with_visible w picked)
+
+    base_picked : machine.with_pick m machine_place ≡ machine_picked
+    base_picked =
+        let left = ap (remove_at m.lists.ready) place_is ∙ tids_of-remove os.threads awake.lists.ready all_recorded place in
+        λ i. record machine_picked { lists = record machine_picked.lists { ready = left i } }
+
+    -- with the same registers and the same memory
+    context_is : context_of (object_at awake n.handle) ≡ links.context
+    context_is = ap context_of links.there
+
+    memory_is : memory_at machine_picked n.pid ≡ links.memory
+    memory_is =
+        ap (memory_at machine_picked) (sym links.pid)
+        ∙ ap memory_in (process_at-found os (with_visible w picked) p links.process fits.records links.behind)
+        ∙ ap (λ code. (process_if code (memory_of_object (object_at awake p)) links.process.descriptors).memory) links.code
+        ∙ ap memory_of_object links.runs
+
+    abbrev ran_from : Context → Space → Served
+    ran_from context space =
+        let r = run_space w.objects.settings.slice context space in
+        after_run (machine.with_run_of machine_picked n.tid n.pid r) n.tid n.pid r.context r.trap
+
+    ran_is : turn_of (base os w) ≡ ran_from links.context links.memory
+    ran_is =
+        turn_is ∙ ap (turn_of_pick m) picked_is
+        ∙ ap (machine.run_thread (machine.with_pick m machine_place) n.tid) (thread_at-found os woken t n fits.records found)
+        ∙ ap (λ a. machine.run_thread a n.tid (Some (thread_seen awake.live n))) base_picked
+        ∙ (λ i. ran_from (context_is i) (memory_is i))
+
+    someone : (ts : List ℕ) (k x : ℕ) → slice_get ts k ≡ Some x → is_nobody ts ≡ false
+    someone [] k x there = absurd (cc)
+    someone (y ∷ ts) k x there = refl
+
+    not_stuck : is_stuck (base os w) ≡ false
+    not_stuck = stuck_is ∙ ap (λ b. b && not (waits_for_time m)) (someone m.lists.ready machine_place n.tid picked_is)
+
+    -- and so is what the run leaves
+    recorded_once : (h : ℕ) → times_named h (recorded os) ≤ 1
+    recorded_once h = omega (arith, times_named-most os awake [] None awake_objects h)
+
+    base_after : base os (with_visible w after) ≡ machine.with_run_of machine_picked n.tid n.pid run
+    base_after =
+        let mid = with_object picked p (Process run.space None) in
+        base-with_context os (with_visible w mid) t p n run.context fits.records (recorded_once t) found
+        ∙ ap (λ a. with_context a n.tid n.pid run.context)
+        (base-with_memory os (with_visible w picked) p links.process run.space fits.records (recorded_once p) links.behind links.code
+        ∙ ap (λ q. with_memory_in machine_picked q run.space (process_at machine_picked q)) links.pid)
+
+    abbrev machine_ran : Mono
+    machine_ran = machine.with_run_of machine_picked n.tid n.pid run
+
+    -- without a trap the thread is ready again
+    ran_again : run.trap ≡ None → TurnsTo os w Ran (with_lists after (with_ready after.lists t))
+    ran_again none = (
       record {
-        fits = trap_fits trap;
-        turns = (λ i. served (after_base i) (who i) trap.0)
-            ∙ sym (turn_is ∙ ap (after_run (with_run (machine.picked (base os w) machine_place) thread.tid process.pid run) thread.tid process.pid run.context) is);
-      }
+        records = fits.records;
+        first = fits.first;
+        objects = FitsObjects-same os after (with_lists after (with_ready after.lists t)) [] None (λ q. refl) after_objects;
+        current = fits.current;
+      },
+      not_stuck,
+      ran_is ∙ ap (after_run machine_ran n.tid n.pid run.context) none
+          ∙ sym (ap silently (base-with_ready os (with_visible w after) t n found ∙ ap (λ a. made_ready a n.tid) base_after)),
+    )
 
-  ends_as : (trap : Option (ℕ × ℕ)) → run.trap ≡ trap → TurnsTo os w (run_end after thread.handle process.handle run.context trap).0 (run_end after thread.handle process.handle run.context trap).1
-  ends_as None is = ran_again is
-  ends_as (Some trap) is = ran_trapped trap is
+    -- with one it is current, and the trap is served
+    abbrev trap_of : Trap → Upcall
+    trap_of trap = record { process = p; thread = t; cause = trap.0; value = trap.1; context = run.context }
 
+    abbrev stopped : Objects
+    stopped = with_lists after (record after.lists { current = Some t })
+
+    ran_trapped : (trap : Trap) → run.trap ≡ Some trap → TurnsTo os w (Exception (trap_of trap)) stopped
+    ran_trapped trap is =
+        let process = ap pid_of links.behind ∙ links.pid in
+        let who : caller_of os (trap_of trap) ≡ record { thread = n.tid; process = n.pid; context = run.context } = λ i. record { thread = tid_of (found i); process = process i; context = run.context } in (
+          record {
+            records = fits.records;
+            first = fits.first;
+            objects = FitsObjects-same os after stopped [] None (λ q. refl) after_objects;
+            current = refl;
+            home = ap (is_thread_of p) after_thread ∙ eq-eqb p p refl;
+            recorded = ap is_some found;
+          },
+          not_stuck,
+          ran_is ∙ ap (after_run machine_ran n.tid n.pid run.context) is ∙ sym (λ i. served (base_after i) (who i) trap),
+        )
+
+    ends_as : (trap : Option Trap) → run.trap ≡ trap → TurnsTo os w (run_end after t p run.context trap).0 (run_end after t p run.context trap).1
+    ends_as None is = ran_again is
+    ends_as (Some trap) is = ran_trapped trap is
+
+    turns_picked : TurnsTo os w (world_turn w.objects).0 (world_turn w.objects).1
+    turns_picked = subst (λ (x : Turned × Objects). TurnsTo os w x.0 x.1) (sym turned_is) (ends_as run.trap refl)
+
+  -- A turn is one of the two.
   pub turns : TurnsTo os w (world_turn w.objects).0 (world_turn w.objects).1
-  turns = subst (λ (x : Turned × Objects). TurnsTo os w x.0 x.1) (sym turned_is) (ends_as run.trap refl)
-
--- A turn without a trap leaves the machine after its turn.
-pub turn_ran : (os : LibOs) (w : World) (o : Objects) → FitsIdle os w.objects → IsSound w.objects → world_turn w.objects ≡ (Ran, o) → FitsIdle os o × (base os (record w { objects = o }) ≡ turn_of (base os w))
-turn_ran os w o fits sound is =
-    let rans : Rans os w o = subst (λ (x : Turned × Objects). TurnsTo os w x.0 x.1) is (turns os w fits sound) in
-    (rans.fits, rans.turns)
-
--- Where a process runs, its thread is ready: a turn is never idle, and never stuck.
-pub turn_never_idle : (os : LibOs) (w : World) (o : Objects) → FitsIdle os w.objects → IsSound w.objects → world_turn w.objects ≡ (Idle, o) → ⊥
-turn_never_idle os w o fits sound is = subst (λ (x : Turned × Objects). TurnsTo os w x.0 x.1) is (turns os w fits sound)
-
-pub turn_never_stuck : (os : LibOs) (w : World) (o : Objects) → FitsIdle os w.objects → IsSound w.objects → world_turn w.objects ≡ (Stuck, o) → ⊥
-turn_never_stuck os w o fits sound is = subst (λ (x : Turned × Objects). TurnsTo os w x.0 x.1) is (turns os w fits sound)
-
-pub turn_traps : (os : LibOs) (w : World) (u : Upcall) (o : Objects) → FitsIdle os w.objects → IsSound w.objects → world_turn w.objects ≡ (Exception u, o) → Traps os w u o
-turn_traps os w u o fits sound is = subst (λ (x : Turned × Objects). TurnsTo os w x.0 x.1) is (turns os w fits sound)
+  turns = elim (world_turn-cases w.objects awake_sound) [
+    | inl idle ↦ turns_idle idle.0 idle.1
+    | inr picks ↦
+        let n = some_of (thread_with picks.thread os.threads) (thread_recorded os awake fits.records awake_objects picks.thread picks.process picks.context picks.runs.thread) in
+        turns_picked picks.thread picks.at n.0 n.1
+  ]

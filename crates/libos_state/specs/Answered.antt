@@ -1,22 +1,25 @@
 -- What a service does on a reply, and what a reply changes of the records: one row for each stage.
 -- A reply that the stage doesn't list ends the service; no host that keeps to its contract gives
 -- one.
-use Rattle.std.specs.Prelude.{ℕ, ◌+◌, ◌==◌, Bool, true, false, if◌then◌else◌, List, [], ◌∷◌, ◌++◌, length, take, drop, nat_lt, nat_le}
+use Rattle.std.specs.Prelude.{ℕ, ◌+◌, ◌==◌, if◌then◌else◌, List, [], ◌∷◌, ◌++◌, length, take, drop, nat_lt, nat_le}
 use Rattle.std.specs.declared.option.Option.{Option}
 use Rattle.std.specs.declared.option.Option.TheVariants.{None, Some}
+use Rattle.std.specs.declared.result.Result.{Result}
+use Rattle.std.specs.declared.result.Result.TheVariants.{Ok, Err}
 use Rattle.abi_calls.specs.declared.reply.Reply.{Reply}
 use Rattle.abi_calls.specs.declared.reply.Reply.TheVariants.{Done, Handle, Bytes, Count, Length, BadAddress, NoAccess}
 use Rattle.mono_model.specs.Machine.{returned}
 use Rattle.mono_model.specs.Calls.{error, EFAULT}
-use Rattle.mono_model.specs.Program.{is_plain}
+use Rattle.elf_loader.specs.declared.Program.{Program}
+use Rattle.mono_model.specs.declared.ProgramRefusal.{ProgramRefusal}
+use Rattle.mono_model.specs.Program.{program_of}
 use Rattle.libos_state.specs.declared.cont.Cont.{Cont}
 use Rattle.libos_state.specs.declared.cont.Stage.{Stage}
-use Rattle.libos_state.specs.declared.cont.Stage.TheVariants.{SetContext, Resume, CloseHandles, ExitProcess, ReadMemory, WriteStream, Configure, OpenConsole, OpenProgram, ProgramLength, ReadProgram, CloseProgram, CreateProcess, AllocateRun, WriteRun, ProtectRun, AllocateStack, WriteBlock, CreateThread, CreateEvent, StartThread}
+use Rattle.libos_state.specs.declared.cont.Stage.TheVariants.{SetContext, Resume, CloseHandles, ExitProcess, ReadBuffer, WriteStream, Configure, OpenConsole, OpenProgram, ProgramLength, ReadProgram, CloseProgram, CreateProcess, AllocateRun, WriteRun, ProtectRun, AllocateStack, WriteBlock, CreateThread, CreateEvent, StartThread}
 use Rattle.libos_state.specs.declared.notes.Description.{Description}
 use Rattle.libos_state.specs.declared.notes.DescriptorNote.{DescriptorNote}
 use Rattle.libos_state.specs.declared.notes.ProcessNote.{ProcessNote}
 use Rattle.libos_state.specs.declared.notes.ThreadNote.{ThreadNote}
-use Rattle.libos_state.specs.declared.notes.ProgramRefusal.TheVariants.{Later}
 use Rattle.libos_state.specs.declared.notes.Kind.TheVariants.{ConIn, ConOut, ConErr}
 use Rattle.libos_state.specs.declared.state.Boot.TheVariants.{Up, NoProgram, BadProgram}
 use Rattle.libos_state.specs.declared.state.LibOs.{LibOs}
@@ -99,9 +102,9 @@ start_with_piece c bytes =
     else starting c ReadProgram (c.bytes ++ bytes) c.handles c.numbers)
 
 -- The bytes are a program, which is loaded, or they are none.
-abbrev pub load_step : Cont → Bool → Step
-load_step c true = Asks (starting c CreateProcess c.bytes (take 3 c.handles) [])
-load_step c false = Stops (BadProgram Later)
+abbrev pub load_step : Cont → Result Program ProgramRefusal → Step
+load_step c (Ok program) = Asks (starting c CreateProcess c.bytes (take 3 c.handles) [])
+load_step c (Err cause) = Stops (BadProgram cause)
 
 -- The run's bytes are written piece by piece, and then it gets its rights.
 abbrev pub start_writing : Cont → ℕ → Cont
@@ -137,12 +140,12 @@ change c _ _ = Same
 
 -- What a service does on a reply.
 abbrev pub next : Cont → Stage → Reply → Step
-next c SetContext Done = Asks (bare c Resume)
+next c SetContext Done = Asks (record c { stage = Resume })
 next c CloseHandles Done = Asks (service_closing c (drop 1 c.handles))
-next c ReadMemory (Bytes bytes) =
+next c ReadBuffer (Bytes bytes) =
     Asks (record (bare c WriteStream) { bytes = bytes; numbers = 0 ∷ [] })
-next c ReadMemory BadAddress = Asks (service_with_result c (error EFAULT))
-next c ReadMemory NoAccess = Asks (service_with_result c (error EFAULT))
+next c ReadBuffer BadAddress = Asks (service_with_result c (error EFAULT))
+next c ReadBuffer NoAccess = Asks (service_with_result c (error EFAULT))
 next c WriteStream (Count n) = Asks (service_with_result c n)
 next c Configure Done = Asks (starting c OpenConsole [] [] [])
 next c OpenConsole (Handle h) = Asks (start_opening c (c.handles ++ h ∷ []))
@@ -150,7 +153,7 @@ next c OpenProgram (Handle h) = Asks (starting c ProgramLength [] (c.handles ++ 
 next c OpenProgram _ = Stops NoProgram
 next c ProgramLength (Length size) = Asks (start_reading c size)
 next c ReadProgram (Bytes bytes) = Asks (start_with_piece c bytes)
-next c CloseProgram Done = load_step c (is_plain c.bytes)
+next c CloseProgram Done = load_step c (program_of c.bytes)
 next c CreateProcess (Handle h) =
     Asks (starting c AllocateRun c.bytes (c.handles ++ h ∷ []) (0 ∷ []))
 next c AllocateRun Done = Asks (starting c WriteRun c.bytes c.handles (0 ∷ 0 ∷ []))

@@ -1,5 +1,6 @@
 -- How a service begins: with a trap, or with the start of a run.
-use Rattle.std.specs.Prelude.{ℕ, ◌%◌, ◌==◌, if◌then◌else◌, List, [], ◌∷◌, ◌++◌, map, bit_and, replicate}
+use Rattle.std.specs.Prelude.{ℕ, ◌%◌, ◌==◌, Bool, not, ◌&&◌, if◌then◌else◌, List, [], ◌∷◌, ◌++◌, map, filter, bit_and, replicate}
+use Rattle.std.specs.List.{list_any}
 use Rattle.std.specs.declared.option.Option.{Option}
 use Rattle.std.specs.declared.option.Option.TheVariants.{None, Some}
 use Rattle.abi_calls.specs.declared.settings.Settings.{Settings}
@@ -8,12 +9,12 @@ use Rattle.mono_model.specs.Machine.{register}
 use Rattle.mono_model.specs.Calls.{WRITE, EXIT, EBADF, ENOSYS, error, fault_code}
 use Rattle.libos_state.specs.declared.cont.Cont.{Cont}
 use Rattle.libos_state.specs.declared.cont.Event.TheVariants as event
-use Rattle.libos_state.specs.declared.cont.Stage.TheVariants.{SetContext, ReadMemory, Configure}
+use Rattle.libos_state.specs.declared.cont.Stage.TheVariants.{SetContext, ReadBuffer, Configure}
 use Rattle.libos_state.specs.declared.notes.Description.{Description}
 use Rattle.libos_state.specs.declared.notes.ProcessNote.{ProcessNote}
 use Rattle.libos_state.specs.declared.state.Boot.TheVariants.{Going}
 use Rattle.libos_state.specs.declared.state.LibOs.{LibOs}
-use Rattle.libos_state.specs.Records.{description_behind}
+use Rattle.libos_state.specs.Records.{description_behind, pid_with}
 use Rattle.libos_state.specs.Answered.{goes_on, service_with_result, service_closing}
 
 -- What a service on a trap keeps at first.
@@ -37,32 +38,41 @@ write_entered os u None = result_of os u (error EBADF)
 write_entered os u (Some d) =
     if bit_and d.access 2 == 2
     then (if register u.context 12 == 0 then result_of os u 0
-    else goes_on os (record (entered_with u) { stage = ReadMemory }))
+    else goes_on os (record (entered_with u) { stage = ReadBuffer }))
     else result_of os u (error EBADF)
 
--- The handles of the open descriptions, and those of the threads' events.
-abbrev pub handles_of : LibOs → List ℕ
-handles_of os = map (λ d. d.handle) os.descriptions ++ map (λ n. n.event) os.threads
+-- A descriptor of a process other than p names the description.
+abbrev pub names_description : ℕ → ℕ → ProcessNote → Bool
+names_description p id n = not (n.pid == p) && list_any (λ d. d.description == id) n.descriptors
+
+abbrev pub is_open_without : LibOs → ℕ → ℕ → Bool
+is_open_without os p id = list_any (names_description p id) os.processes
+
+-- What ends with process p: the handles of the descriptions that it alone has open, and those of
+-- its threads' events.
+abbrev pub handles_of : LibOs → ℕ → List ℕ
+handles_of os p =
+    map (λ d. d.handle) (filter (λ d. not (is_open_without os p d.id)) os.descriptions)
+    ++ map (λ n. n.event) (filter (λ n. n.pid == p) os.threads)
 
 -- The record of a process that ends keeps its code alone.
 abbrev pub note_ended : ℕ → ℕ → ProcessNote → ProcessNote
-note_ended process code n =
-    if n.handle == process then record n { code = Some code; descriptors = [] } else n
+note_ended p code n = if n.pid == p then record n { code = Some code; descriptors = [] } else n
 
--- The records of threads and open descriptions end with the process, which is the only one there is
--- so far.
+-- The records without those that end with process p.
 abbrev pub without_process : LibOs → ℕ → ℕ → LibOs
-without_process os process code = record os {
-  processes = map (note_ended process code) os.processes;
-  threads = [];
-  descriptions = [];
+without_process os p code = record os {
+  processes = map (note_ended p code) os.processes;
+  threads = filter (λ n. not (n.pid == p)) os.threads;
+  descriptions = filter (λ d. is_open_without os p d.id) os.descriptions;
 }
 
 -- A process ends: its handles are closed one after another.
 abbrev pub ends_process : LibOs → Upcall → ℕ → LibOs
 ends_process os u code =
-    goes_on (without_process os u.process code)
-    (service_closing (record (entered_with u) { numbers = code ∷ [] }) (handles_of os))
+    let p = pid_with os u.process in
+    goes_on (without_process os p code)
+    (service_closing (record (entered_with u) { numbers = code ∷ [] }) (handles_of os p))
 
 abbrev pub call_entered : LibOs → Upcall → ℕ → LibOs
 call_entered os u number =

@@ -1,323 +1,370 @@
--- When the library OS fits the objects of a world. There is one process so far, with one thread.
-use Rattle.std.specs.Prelude.{◌≡◌, ◌≢◌, ℕ, ◌+◌, ◌≤◌, ◌<◌, Bool, true, false, if◌then◌else◌, List, [], ◌∷◌, length, is_some, bit_and, nat_le}
-use Rattle.std.specs.List.{list_all}
+-- When the library OS fits the objects of a world: its records by themselves, the service in
+-- progress by itself, and the objects, each of which is named once.
+use Rattle.std.specs.Prelude.{◌≡◌, ℕ, ◌+◌, ◌≤◌, ◌<◌, ◌==◌, Bool, true, false, not, ◌&&◌, ◌||◌, if◌then◌else◌, List, [], ◌∷◌, ◌++◌, map, length, is_some, bit_and, nat_le, nat_lt}
+use Rattle.std.specs.List.{list_all, list_any}
 use Rattle.std.specs.Option.{option_map}
 use Rattle.std.specs.Ordering.{nat_cmp}
 use Rattle.std.specs.FinMap.{get, empty, len}
 use Rattle.std.specs.declared.option.Option.{Option}
 use Rattle.std.specs.declared.option.Option.TheVariants.{None, Some}
-use Rattle.rv_core.specs.declared.context.Context.{Context}
 use Rattle.guest_space.specs.Space.{Space, Frame, in_run}
-use Rattle.bas_names.specs.declared.StreamName.{StreamName}
-use Rattle.bas_names.specs.declared.StreamName.TheVariants as stream
-use Rattle.abi_calls.specs.declared.object.Object.TheVariants.{Process, Thread, Event, Stream}
+use Rattle.turn_sched.specs.Lists.{contains, is_at}
+use Rattle.abi_calls.specs.declared.object.Object.TheVariants as object
+use Rattle.abi_calls.specs.declared.object.Object.TheVariants.{Process, Thread}
 use Rattle.abi_calls.specs.declared.threads.Upcall.{Upcall}
-use Rattle.turn_sched.specs.Lists.{contains}
-use Rattle.abi_calls.specs.Objects.{Object, Objects, Live, object_at, running, is_process, is_thread}
+use Rattle.abi_calls.specs.Objects.{Object, Objects, object_at, running, is_thread_of}
 use Rattle.abi_calls.specs.Processes.{is_acceptable}
 use Rattle.mono_model.specs.Machine.{register}
-use Rattle.mono_model.specs.Calls.{WRITE, moved}
+use Rattle.mono_model.specs.Calls.{WRITE, EXIT, moved}
 use Rattle.mono_model.specs.Program.{is_plain, page_count}
 use Rattle.mono_model.specs.Starting.{STACK_PAGE, STACK_PAGES}
 use Rattle.libos_state.specs.declared.cont.Cont.{Cont}
+use Rattle.libos_state.specs.declared.cont.Event.{Event}
 use Rattle.libos_state.specs.declared.cont.Event.TheVariants as event
 use Rattle.libos_state.specs.declared.cont.Stage.{Stage}
-use Rattle.libos_state.specs.declared.cont.Stage.TheVariants.{SetContext, Resume, CloseHandles, ExitProcess, ReadMemory, WriteStream, Configure, OpenConsole, OpenProgram, ProgramLength, ReadProgram, CloseProgram, CreateProcess, AllocateRun, WriteRun, ProtectRun, AllocateStack, WriteBlock, CreateThread, CreateEvent, StartThread}
+use Rattle.libos_state.specs.declared.cont.Stage.TheVariants.{SetContext, Resume, CloseHandles, ExitProcess, ReadBuffer, WriteStream, Configure, OpenConsole, OpenProgram, ProgramLength, ReadProgram, CreateProcess, AllocateRun, WriteRun, ProtectRun, AllocateStack, WriteBlock, CreateThread, CreateEvent, StartThread}
 use Rattle.libos_state.specs.declared.notes.Description.{Description}
-use Rattle.libos_state.specs.declared.notes.Kind.TheVariants.{ConIn}
+use Rattle.libos_state.specs.declared.notes.Kind.{Kind}
+use Rattle.libos_state.specs.declared.notes.Kind.TheVariants.{ConIn, ConOut, ConErr}
 use Rattle.libos_state.specs.declared.notes.ProcessNote.{ProcessNote}
 use Rattle.libos_state.specs.declared.notes.ThreadNote.{ThreadNote}
 use Rattle.libos_state.specs.declared.state.Boot.{Boot}
 use Rattle.libos_state.specs.declared.state.Boot.TheVariants as boot
 use Rattle.libos_state.specs.declared.state.LibOs.{LibOs}
-use Rattle.libos_state.specs.Records.{stream_of_kind, process_named, description_named, description_behind}
-use Rattle.libos_state.specs.Pending.{handle, program_name, arguments, file_or_child, run_in}
-use Rattle.libos_state.specs.Entered.{handles_of}
+use Rattle.libos_state.specs.Records.{process_named, process_with, thread_with, description_named, description_behind}
+use Rattle.libos_state.specs.Pending.{upcall_in, handle, program_name, arguments, file_or_child, run_in}
+use Rattle.libos_state.specs.Named.{Named, is_of, recorded, named_as, consoles, kinds_at, kept_names, times_named}
 
--- A handle that can be closed: of a stream or an event.
-abbrev pub is_closable : Option Object → Bool
-is_closable (Some (Stream name)) = true
-is_closable (Some (Event set)) = true
-is_closable _ = false
+-- ---- the records by themselves
 
--- Handles that can be closed one after another: each is of a stream or an event, and none stands
--- twice.
-abbrev pub Closable : Live → List ℕ → Type 0
-Closable live [] = Unit {0}
-Closable live (h ∷ hs) =
-    (is_closable (get {R = nat_cmp} live h) ≡ true) × (contains hs h ≡ false) × Closable live hs
+abbrev pub are_distinct : List ℕ → Bool
+are_distinct [] = true
+are_distinct (x ∷ xs) = not (contains xs x) && are_distinct xs
 
--- No other number names a thread.
-abbrev pub IsLoneThread : Live → ℕ → Type 0
-IsLoneThread live t =
-    (q p : ℕ) (context : Context) → get {R = nat_cmp} live q ≡ Some (Thread p context) → q ≡ t
+abbrev pub is_none : {A : Type 0} → List A → Bool
+is_none [] = true
+is_none (x ∷ xs) = false
 
--- The records of the process and of its thread fit their objects, and so do the open descriptions;
--- the console's input isn't open for writing.
-pub record FitsRecords (os : LibOs) (live : Live) (process : ProcessNote) (thread : ThreadNote)
+-- The descriptors of a process have different numbers, and name open descriptions; one that has
+-- exited has none.
+abbrev pub is_fit_process : LibOs → ProcessNote → Bool
+is_fit_process os n =
+    are_distinct (map (λ d. d.number) n.descriptors)
+    && (list_all (λ d. is_some (description_named d.description os.descriptions)) n.descriptors
+    && (not (is_some n.code) || is_none n.descriptors))
+
+abbrev pub is_alive : Option ProcessNote → Bool
+is_alive None = false
+is_alive (Some n) = not (is_some n.code)
+
+-- Console input is open to be read, and its output and errors to be written.
+abbrev pub is_fit_access : Kind → ℕ → Bool
+is_fit_access ConIn access = access == 1
+is_fit_access ConOut access = access == 2
+is_fit_access ConErr access = access == 2
+
+-- A process has the description open.
+abbrev pub is_described : LibOs → ℕ → Bool
+is_described os id =
+    list_any (λ n. list_any (λ d. d.description == id) n.descriptors) os.processes
+
+-- An id that was given.
+abbrev pub is_given : LibOs → ℕ → Bool
+is_given os id = nat_le 1 id && nat_lt id os.next_id
+
+-- Ids name one record each; a thread's process hasn't exited; every description has a descriptor.
+pub record FitsRecords (os : LibOs) : Type 0 where
+  pub pids : are_distinct (map (λ n. n.pid) os.processes) ≡ true
+  pub tids : are_distinct (map (λ n. n.tid) os.threads) ≡ true
+  pub ids : are_distinct (map (λ d. d.id) os.descriptions) ≡ true
+  pub given_pids : list_all (λ n. is_given os n.pid) os.processes ≡ true
+  pub given_tids : list_all (λ n. is_given os n.tid) os.threads ≡ true
+  pub processes : list_all (is_fit_process os) os.processes ≡ true
+  pub threads : list_all (λ n. is_alive (process_named n.pid os.processes)) os.threads ≡ true
+  pub described : list_all (λ d. is_described os d.id) os.descriptions ≡ true
+  pub access : list_all (λ d. is_fit_access d.kind d.access) os.descriptions ≡ true
+
+-- ---- the records and what they name
+
+-- A live number is to be named, unless it is a thread that ends with its process.
+abbrev pub is_ending : Option ℕ → Option Object → Bool
+is_ending None x = false
+is_ending (Some p) x = is_thread_of p x
+
+abbrev pub is_to_name : Option ℕ → Option Object → Bool
+is_to_name ending x = is_some x && not (is_ending ending x)
+
+-- A process's object runs, or has exited with the code of the record.
+abbrev pub is_code : Option ℕ → Option Object → Bool
+is_code None x = is_some (running x)
+is_code (Some code) (Some (Process memory (Some exited))) = exited == code
+is_code _ _ = false
+
+-- The object of a process that ends runs still, whatever its record says.
+abbrev pub has_code : Option ℕ → ProcessNote → Option Object → Bool
+has_code ending n x = if is_at n.handle ending then is_some (running x) else is_code n.code x
+
+abbrev pub handle_in : Option ProcessNote → ℕ
+handle_in None = 0
+handle_in (Some n) = n.handle
+
+-- A thread's object is of the object of its process.
+abbrev pub is_home : LibOs → Objects → ThreadNote → Bool
+is_home os o n = is_thread_of (handle_in (process_named n.pid os.processes)) (object_at o n.handle)
+
+-- The records and these further names name each live number once, by its kind; `ending` is the
+-- process that ends, if one does.
+pub record FitsObjects (os : LibOs) (o : Objects) (kept : List Named) (ending : Option ℕ)
     : Type 0 where
-  pub processes : os.processes ≡ process ∷ []
-  pub threads : os.threads ≡ thread ∷ []
-  pub first : process.pid ≡ 1
-  pub alive : process.code ≡ None
-  pub home : thread.pid ≡ process.pid
-  pub memory : is_some (running (get {R = nat_cmp} live process.handle)) ≡ true
-  pub context : Context
-  pub object : get {R = nat_cmp} live thread.handle ≡ Some (Thread process.handle context)
-  pub alone : IsLoneThread live thread.handle
-  pub closable : Closable live (handles_of os)
-  pub streams : (id : ℕ) (d : Description) → description_named id os.descriptions ≡ Some d
-      → get {R = nat_cmp} live d.handle ≡ Some (Stream (stream_of_kind d.kind))
-  pub inputs : (id : ℕ) (d : Description) → description_named id os.descriptions ≡ Some d
-      → d.kind ≡ ConIn → bit_and d.access 2 ≢ 2
+  pub once : (q : ℕ)
+      → times_named q (recorded os ++ kept) ≡ (if is_to_name ending (object_at o q) then 1 else 0)
+  pub kinds : list_all (λ n. is_of n.1 (object_at o n.0)) (recorded os ++ kept) ≡ true
+  pub homes : list_all (is_home os o) os.threads ≡ true
+  pub codes : list_all (λ n. has_code ending n (object_at o n.handle)) os.processes ≡ true
 
--- Nothing is in progress, and the process runs.
-pub record FitsIdle (os : LibOs) (o : Objects) : Type 0 where
+-- ---- what a service serves
+
+-- Stages of a start; the others serve a trap.
+abbrev pub is_of_start : Stage → Bool
+is_of_start SetContext = false
+is_of_start Resume = false
+is_of_start CloseHandles = false
+is_of_start ExitProcess = false
+is_of_start ReadBuffer = false
+is_of_start WriteStream = false
+is_of_start _ = true
+
+-- The trap is the system call of this number.
+abbrev pub is_call : Upcall → ℕ → Bool
+is_call u number = u.cause == 8 && register u.context 17 == number
+
+abbrev pub is_writable : Option Description → Bool
+is_writable None = false
+is_writable (Some d) = bit_and d.access 2 == 2
+
+-- A write of some bytes to a descriptor that is open for writing.
+abbrev pub writes : LibOs → Upcall → Bool
+writes os u =
+    is_call u WRITE && (not (register u.context 12 == 0)
+    && is_writable (description_behind os u.process (register u.context 10)))
+
+abbrev pub is_recorded : LibOs → Upcall → Bool
+is_recorded os u = is_some (thread_with u.thread os.threads)
+
+-- A system call that the thread goes on behind.
+abbrev pub returns : LibOs → Upcall → Bool
+returns os u = u.cause == 8 && (not (is_call u EXIT) && is_recorded os u)
+
+-- The trap comes to this stage. Its thread has a record, but where the process ends.
+abbrev pub comes_to : LibOs → Upcall → Stage → Bool
+comes_to os u SetContext = returns os u
+comes_to os u Resume = returns os u
+comes_to os u CloseHandles = not (u.cause == 8) || is_call u EXIT
+comes_to os u ExitProcess = not (u.cause == 8) || is_call u EXIT
+comes_to os u ReadBuffer = writes os u && is_recorded os u
+comes_to os u WriteStream = writes os u && is_recorded os u
+comes_to os u _ = false
+
+-- A trap of a thread of a process is served; the thread is current.
+pub record FitsTrap (os : LibOs) (o : Objects) (u : Upcall) (stage : Stage) : Type 0 where
   pub up : os.boot ≡ boot.Up
-  pub process : ProcessNote
-  pub thread : ThreadNote
-  pub records : FitsRecords os o.live process thread
-  pub ready : o.lists.ready ≡ thread.handle ∷ []
-  pub suspended : o.lists.suspended ≡ []
-  pub current : o.lists.current ≡ None
+  pub first : is_some (process_named 1 os.processes) ≡ true
+  pub current : o.lists.current ≡ Some u.thread
+  pub home : is_thread_of u.process (object_at o u.thread) ≡ true
+  pub comes : comes_to os u stage ≡ true
 
--- The process has exited, and so has its object.
-pub record FitsOver (os : LibOs) (o : Objects) (code : ℕ) : Type 0 where
-  pub process : ProcessNote
-  pub processes : os.processes ≡ process ∷ []
-  pub first : process.pid ≡ 1
-  pub ended : process.code ≡ Some code
-  pub object : object_at o process.handle ≡ Some (Process empty (Some code))
-  pub threads : os.threads ≡ []
-  pub descriptions : os.descriptions ≡ []
-  pub ready : o.lists.ready ≡ []
-  pub suspended : o.lists.suspended ≡ []
-  pub current : o.lists.current ≡ None
-
--- A trap of the thread is served: the thread is current.
-pub record FitsServed (os : LibOs) (o : Objects) (c : Cont) : Type 0 where
-  pub upcall : Upcall
-  pub event : c.event ≡ event.Up upcall
-  pub up : os.boot ≡ boot.Up
-  pub process : ProcessNote
-  pub thread : ThreadNote
-  pub records : FitsRecords os o.live process thread
-  pub of_process : upcall.process ≡ process.handle
-  pub of_thread : upcall.thread ≡ thread.handle
-  pub ready : o.lists.ready ≡ []
-  pub suspended : o.lists.suspended ≡ []
-  pub current : o.lists.current ≡ Some thread.handle
-
--- Bytes are written to a descriptor that is open for writing.
-pub record FitsWrite (os : LibOs) (o : Objects) (c : Cont) : Type 0 where
-  pub served : FitsServed os o c
-  pub call : served.upcall.cause ≡ 8
-  pub write : register served.upcall.context 17 ≡ WRITE
-  pub some : register served.upcall.context 12 ≢ 0
-  pub description : Description
-  pub behind : description_behind os served.upcall.process (register served.upcall.context 10)
-      ≡ Some description
-  pub writable : bit_and description.access 2 ≡ 2
-
--- The bytes were read.
-pub record FitsWriteBytes (os : LibOs) (o : Objects) (c : Cont) : Type 0 where
-  pub writes : FitsWrite os o c
-  pub count : length c.bytes ≡ moved (register writes.served.upcall.context 12)
-
--- The process ends: its records are gone but for its code, and its object still runs.
-pub record FitsEnding (os : LibOs) (o : Objects) (c : Cont) : Type 0 where
-  pub upcall : Upcall
-  pub event : c.event ≡ event.Up upcall
-  pub up : os.boot ≡ boot.Up
-  pub process : ProcessNote
-  pub processes : os.processes ≡ process ∷ []
-  pub first : process.pid ≡ 1
-  pub code : ℕ
-  pub byte : code < 256
-  pub ended : process.code ≡ Some code
-  pub kept : c.numbers ≡ code ∷ []
-  pub of_process : upcall.process ≡ process.handle
-  pub threads : os.threads ≡ []
-  pub descriptions : os.descriptions ≡ []
-  pub memory : is_some (running (get {R = nat_cmp} o.live upcall.process)) ≡ true
-  pub context : Context
-  pub object : get {R = nat_cmp} o.live upcall.thread ≡ Some (Thread upcall.process context)
-  pub ready : o.lists.ready ≡ []
-  pub suspended : o.lists.suspended ≡ []
-  pub current : o.lists.current ≡ Some upcall.thread
-
-pub record FitsClosing (os : LibOs) (o : Objects) (c : Cont) : Type 0 where
-  pub ending : FitsEnding os o c
-  pub some : c.handles ≢ []
-  pub closable : Closable o.live c.handles
-
--- A name has 1 to 80 bytes, and there are at most 16 arguments of at most 80 bytes each.
-pub record FitsNames (c : Cont) : Type 0 where
-  pub named : 1 ≤ length (program_name c)
-  pub short : length (program_name c) ≤ 80
-  pub few : length (arguments c) ≤ 16
-  pub args : list_all (λ arg. nat_le (length arg) 80) (arguments c) ≡ true
-
--- A start is going on: there is no record, and no thread is ready, suspended or current.
-pub record FitsStart (os : LibOs) (o : Objects) (c : Cont) : Type 0 where
-  pub program : List ℕ
-  pub args : List (List ℕ)
-  pub event : c.event ≡ event.Boot program args
+-- A start is going on: there is no record yet, and no thread is current.
+pub record FitsStart (os : LibOs) (o : Objects) (stage : Stage) : Type 0 where
   pub going : os.boot ≡ boot.Going
   pub next_id : os.next_id ≡ 1
   pub processes : os.processes ≡ []
   pub threads : os.threads ≡ []
   pub descriptions : os.descriptions ≡ []
-  pub ready : o.lists.ready ≡ []
   pub current : o.lists.current ≡ None
-  pub names : FitsNames c
+  pub starts : is_of_start stage ≡ true
 
-abbrev pub passes : (Object → Bool) → Option Object → Bool
-passes test None = false
-passes test (Some x) = test x
+abbrev pub FitsEvent : LibOs → Objects → Event → Stage → Type 0
+FitsEvent os o (event.Up u) stage = FitsTrap os o u stage
+FitsEvent os o (event.Boot program args) stage = FitsStart os o stage
 
--- No live object passes a test.
-abbrev pub NoneLive : (Object → Bool) → Live → Type 0
-NoneLive test live = (q : ℕ) → passes test (get {R = nat_cmp} live q) ≡ false
+-- ---- what a service keeps
 
-abbrev pub IsStream : Live → StreamName → ℕ → Type 0
-IsStream live name h = get {R = nat_cmp} live h ≡ Some (Stream name)
+abbrev pub keeps_next : Stage → Bool
+keeps_next SetContext = true
+keeps_next Resume = true
+keeps_next _ = false
 
--- The ends of the console that are open so far: input, output, errors.
-abbrev pub Opened : Live → List ℕ → Type 0
-Opened live [] = Unit {0}
-Opened live (a ∷ []) = IsStream live stream.ConIn a
-Opened live (a ∷ b ∷ []) = IsStream live stream.ConIn a × IsStream live stream.ConOut b
-Opened live (a ∷ b ∷ c ∷ rest) =
-    IsStream live stream.ConIn a × IsStream live stream.ConOut b × IsStream live stream.ConErr c
+abbrev pub keeps_names : Stage → Bool
+keeps_names stage = is_of_start stage
 
-pub record FitsConfigure (os : LibOs) (o : Objects) (c : Cont) : Type 0 where
-  pub start : FitsStart os o c
-  pub suspended : o.lists.suspended ≡ []
-  pub settings : is_acceptable os.settings ≡ true
-  pub unturned : o.positions.turns ≡ 0
-  pub no_process : NoneLive is_process o.live
-  pub no_thread : NoneLive is_thread o.live
+abbrev pub keeps_bytes : Stage → Bool
+keeps_bytes SetContext = false
+keeps_bytes Resume = false
+keeps_bytes CloseHandles = false
+keeps_bytes ExitProcess = false
+keeps_bytes ReadBuffer = false
+keeps_bytes Configure = false
+keeps_bytes OpenConsole = false
+keeps_bytes OpenProgram = false
+keeps_bytes ProgramLength = false
+keeps_bytes _ = true
 
--- No process and no thread was made yet, and so many handles are kept, the console's in front.
-pub record FitsOpening (os : LibOs) (o : Objects) (c : Cont) (kept : ℕ) : Type 0 where
-  pub start : FitsStart os o c
-  pub suspended : o.lists.suspended ≡ []
-  pub no_process : NoneLive is_process o.live
-  pub no_thread : NoneLive is_thread o.live
-  pub count : length c.handles ≡ kept
-  pub opened : Opened o.live c.handles
+abbrev pub numbers_at : Stage → ℕ
+numbers_at CloseHandles = 1
+numbers_at ExitProcess = 1
+numbers_at WriteStream = 1
+numbers_at ReadProgram = 1
+numbers_at AllocateRun = 1
+numbers_at WriteRun = 2
+numbers_at ProtectRun = 1
+numbers_at _ = 0
 
-pub record FitsConsole (os : LibOs) (o : Objects) (c : Cont) : Type 0 where
-  pub opening : FitsOpening os o c (length c.handles)
-  pub few : length c.handles < 3
+-- So many handles are kept: one at least to be closed, and of the console's less than all while it
+-- is opened.
+abbrev pub HasHandles : Stage → List ℕ → Type 0
+HasHandles CloseHandles hs = 1 ≤ length hs
+HasHandles OpenConsole hs = length hs < length consoles
+HasHandles stage hs = length hs ≡ length (kinds_at stage)
 
--- The program's file is open.
-pub record FitsFile (os : LibOs) (o : Objects) (c : Cont) : Type 0 where
-  pub opening : FitsOpening os o c 4
-  pub name : List ℕ
-  pub file : IsStream o.live (stream.File name) (file_or_child c)
+-- A service keeps the lists of its stage alone.
+pub record KeepsLists (c : Cont) (stage : Stage) : Type 0 where
+  pub next : keeps_next stage ≡ false → c.next ≡ (upcall_in c.event).context
+  pub names : keeps_names stage ≡ false → c.names ≡ []
+  pub bytes : keeps_bytes stage ≡ false → c.bytes ≡ []
+  pub handles : HasHandles stage c.handles
+  pub numbers : length c.numbers ≡ numbers_at stage
 
-pub record FitsReading (os : LibOs) (o : Objects) (c : Cont) : Type 0 where
-  pub file : FitsFile os o c
+-- A name has 1 to 80 bytes, and there are at most 16 arguments of at most 80 bytes each.
+pub record FitsNames (c : Cont) : Type 0 where
+  pub some : 1 ≤ length c.names
+  pub named : 1 ≤ length (program_name c)
+  pub short : length (program_name c) ≤ 80
+  pub few : length (arguments c) ≤ 16
+  pub args : list_all (λ arg. nat_le (length arg) 80) (arguments c) ≡ true
+
+abbrev pub AreNames : Cont → Bool → Type 0
+AreNames c true = FitsNames c
+AreNames c false = Unit {0}
+
+-- The exit code is a byte, and that of the process's record.
+abbrev pub is_ended_with : Option ProcessNote → ℕ → Bool
+is_ended_with None code = true
+is_ended_with (Some n) code = is_at code n.code
+
+pub record KeepsCode (os : LibOs) (c : Cont) : Type 0 where
+  pub code : ℕ
+  pub kept : c.numbers ≡ code ∷ []
+  pub byte : code < 256
+  pub ended : is_ended_with (process_with (upcall_in c.event).process os.processes) code ≡ true
+
+-- So many bytes of the program's file were read, of so many.
+pub record KeepsSize (c : Cont) : Type 0 where
   pub size : ℕ
   pub kept : c.numbers ≡ size ∷ []
-  pub more : length c.bytes < size
+  pub read : length c.bytes ≤ size
 
-pub record FitsLoaded (os : LibOs) (o : Objects) (c : Cont) : Type 0 where
-  pub opening : FitsOpening os o c 3
+-- The program's one run is written up to here.
+pub record KeepsPlace (c : Cont) : Type 0 where
   pub plain : is_plain c.bytes ≡ true
+  pub written : ℕ
+  pub kept : c.numbers ≡ 0 ∷ written ∷ []
+  pub more : written < length (run_in c).bytes
 
--- The process that is made has the pages of the program with these rights, and the stack where it
--- has one.
+-- What a service keeps fits its event.
+abbrev pub FitsKept : LibOs → Cont → Stage → Type 0
+FitsKept os c CloseHandles = KeepsCode os c
+FitsKept os c ExitProcess = KeepsCode os c
+FitsKept os c WriteStream =
+    (c.numbers ≡ 0 ∷ []) × (length c.bytes ≡ moved (register (upcall_in c.event).context 12))
+FitsKept os c Configure = is_acceptable os.settings ≡ true
+FitsKept os c ReadProgram = KeepsSize c
+FitsKept os c CreateProcess = is_plain c.bytes ≡ true
+FitsKept os c AllocateRun = (is_plain c.bytes ≡ true) × (c.numbers ≡ 0 ∷ [])
+FitsKept os c WriteRun = KeepsPlace c
+FitsKept os c ProtectRun = (is_plain c.bytes ≡ true) × (c.numbers ≡ 0 ∷ [])
+FitsKept os c AllocateStack = is_plain c.bytes ≡ true
+FitsKept os c WriteBlock = is_plain c.bytes ≡ true
+FitsKept os c CreateThread = is_plain c.bytes ≡ true
+FitsKept os c CreateEvent = is_plain c.bytes ≡ true
+FitsKept os c StartThread = is_plain c.bytes ≡ true
+FitsKept os c _ = Unit {0}
+
+-- ---- the objects that a start has made
+
+-- The process that is made has the pages of the program with these rights, and so many of the
+-- stack.
 pub record HasPages (s : Space) (count rights stack : ℕ) : Type 0 where
   pub pages : (q : ℕ) → option_map (λ (frame : Frame). frame.rights) (get {R = nat_cmp} s q)
       ≡ (if in_run 16 count q then Some rights
       else (if in_run STACK_PAGE stack q then Some 3 else None))
   pub held : len s ≡ count + stack
 
--- The process is made, and no thread.
-pub record FitsChild (os : LibOs) (o : Objects) (c : Cont) : Type 0 where
-  pub start : FitsStart os o c
-  pub suspended : o.lists.suspended ≡ []
-  pub no_thread : NoneLive is_thread o.live
-  pub count : length c.handles ≡ 4
-  pub opened : Opened o.live c.handles
-  pub plain : is_plain c.bytes ≡ true
+-- The process that is made runs, and of its memory this holds.
+pub record HasChild (o : Objects) (c : Cont) (P : Space → Type 0) : Type 0 where
   pub memory : Space
   pub child : object_at o (file_or_child c) ≡ Some (Process memory None)
+  pub holds : P memory
 
-pub record FitsNewChild (os : LibOs) (o : Objects) (c : Cont) : Type 0 where
-  pub child : FitsChild os o c
-  pub none : child.memory ≡ empty
+-- Its thread is suspended.
+pub record HasThread (o : Objects) (c : Cont) : Type 0 where
+  pub home : is_thread_of (file_or_child c) (object_at o (handle c 4)) ≡ true
+  pub suspended : contains o.lists.suspended (handle c 4) ≡ true
 
--- The process has the program's pages with these rights, and so many of the stack.
-pub record FitsPages (os : LibOs) (o : Objects) (c : Cont) (rights stack : ℕ) : Type 0 where
-  pub child : FitsChild os o c
-  pub pages : HasPages child.memory (page_count c.bytes) rights stack
+-- The thread's event isn't set.
+abbrev pub HasEvent : Objects → Cont → Type 0
+HasEvent o c = object_at o (handle c 5) ≡ Some (object.Event false)
 
-pub record FitsWriting (os : LibOs) (o : Objects) (c : Cont) : Type 0 where
-  pub pages : FitsPages os o c 3 0
-  pub written : ℕ
-  pub kept : c.numbers ≡ 0 ∷ written ∷ []
-  pub more : written < length (run_in c).bytes
+abbrev pub FitsMade : Objects → Cont → Stage → Type 0
+FitsMade o c Configure = o.positions.turns ≡ 0
+FitsMade o c AllocateRun = HasChild o c (λ s. s ≡ empty)
+FitsMade o c WriteRun = HasChild o c (λ s. HasPages s (page_count c.bytes) 3 0)
+FitsMade o c ProtectRun = HasChild o c (λ s. HasPages s (page_count c.bytes) 3 0)
+FitsMade o c AllocateStack = HasChild o c (λ s. HasPages s (page_count c.bytes) 7 0)
+FitsMade o c WriteBlock = HasChild o c (λ s. HasPages s (page_count c.bytes) 7 STACK_PAGES)
+FitsMade o c CreateThread = HasChild o c (λ s. Unit {0})
+FitsMade o c CreateEvent = HasChild o c (λ s. Unit {0}) × HasThread o c
+FitsMade o c StartThread = HasChild o c (λ s. Unit {0}) × HasThread o c × HasEvent o c
+FitsMade o c _ = Unit {0}
 
--- The thread is made, and with two more handles its event too.
-pub record FitsThread (os : LibOs) (o : Objects) (c : Cont) (kept : ℕ) : Type 0 where
-  pub start : FitsStart os o c
-  pub count : length c.handles ≡ kept
-  pub opened : Opened o.live c.handles
-  pub memory : Space
-  pub child : object_at o (file_or_child c) ≡ Some (Process memory None)
-  pub context : Context
-  pub thread : object_at o (handle c 4) ≡ Some (Thread (file_or_child c) context)
-  pub alone : IsLoneThread o.live (handle c 4)
-  pub suspended : o.lists.suspended ≡ handle c 4 ∷ []
+-- ---- the whole
 
-pub record FitsEvent (os : LibOs) (o : Objects) (c : Cont) : Type 0 where
-  pub thread : FitsThread os o c 6
-  pub set : Bool
-  pub event : object_at o (handle c 5) ≡ Some (Event set)
+-- The process that ends at a stage.
+abbrev pub ending_at : Cont → Stage → Option ℕ
+ending_at c CloseHandles = Some (upcall_in c.event).process
+ending_at c ExitProcess = Some (upcall_in c.event).process
+ending_at c _ = None
 
-abbrev pub FitsStage : LibOs → Objects → Cont → Stage → Type 0
-FitsStage os o c SetContext = FitsServed os o c
-FitsStage os o c Resume = FitsServed os o c
-FitsStage os o c CloseHandles = FitsClosing os o c
-FitsStage os o c ExitProcess = FitsEnding os o c
-FitsStage os o c ReadMemory = FitsWrite os o c
-FitsStage os o c WriteStream = FitsWriteBytes os o c
-FitsStage os o c Configure = FitsConfigure os o c
-FitsStage os o c OpenConsole = FitsConsole os o c
-FitsStage os o c OpenProgram = FitsOpening os o c 3
-FitsStage os o c ProgramLength = FitsFile os o c
-FitsStage os o c ReadProgram = FitsReading os o c
-FitsStage os o c CloseProgram = FitsFile os o c
-FitsStage os o c CreateProcess = FitsLoaded os o c
-FitsStage os o c AllocateRun = FitsNewChild os o c
-FitsStage os o c WriteRun = FitsWriting os o c
-FitsStage os o c ProtectRun = FitsPages os o c 3 0
-FitsStage os o c AllocateStack = FitsPages os o c 7 0
-FitsStage os o c WriteBlock = FitsPages os o c 7 STACK_PAGES
-FitsStage os o c CreateThread = FitsChild os o c
-FitsStage os o c CreateEvent = FitsThread os o c 5
-FitsStage os o c StartThread = FitsEvent os o c
+-- A service is in progress, at this stage.
+pub record FitsStage (os : LibOs) (o : Objects) (c : Cont) (stage : Stage) : Type 0 where
+  pub records : FitsRecords os
+  pub objects : FitsObjects os o (kept_names c stage) (ending_at c stage)
+  pub event : FitsEvent os o c.event stage
+  pub lists : KeepsLists c stage
+  pub names : AreNames c (keeps_names stage)
+  pub kept : FitsKept os c stage
+  pub made : FitsMade o c stage
 
-abbrev pub code_of : Option ProcessNote → Option ℕ
-code_of None = None
-code_of (Some n) = n.code
+-- The run has begun, and nothing is in progress.
+pub record FitsUp (os : LibOs) (o : Objects) : Type 0 where
+  pub records : FitsRecords os
+  pub first : is_some (process_named 1 os.processes) ≡ true
+  pub objects : FitsObjects os o [] None
+  pub current : o.lists.current ≡ None
 
--- The exit code that the record of process 1 holds.
-abbrev pub exit_code : LibOs → Option ℕ
-exit_code os = code_of (process_named 1 os.processes)
-
-abbrev pub FitsUp : LibOs → Objects → Option ℕ → Type 0
-FitsUp os o None = FitsIdle os o
-FitsUp os o (Some code) = FitsOver os o code
+-- The start ended without a program: the ends of the console are open, and nothing else is there.
+pub record FitsNone (os : LibOs) (o : Objects) : Type 0 where
+  pub processes : os.processes ≡ []
+  pub threads : os.threads ≡ []
+  pub descriptions : os.descriptions ≡ []
+  pub handles : List ℕ
+  pub all : length handles ≡ length consoles
+  pub objects : FitsObjects os o (named_as handles consoles) None
+  pub current : o.lists.current ≡ None
 
 abbrev pub FitsBoot : LibOs → Objects → Boot → Type 0
-FitsBoot os o boot.Up = FitsUp os o (exit_code os)
-FitsBoot os o boot.NoProgram = o.lists.current ≡ None
-FitsBoot os o (boot.BadProgram cause) = o.lists.current ≡ None
+FitsBoot os o boot.Up = FitsUp os o
+FitsBoot os o boot.NoProgram = FitsNone os o
+FitsBoot os o (boot.BadProgram cause) = FitsNone os o
 FitsBoot os o boot.Going = ⊥
 
 abbrev pub FitsCont : LibOs → Objects → Option Cont → Type 0

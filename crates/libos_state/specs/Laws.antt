@@ -1,38 +1,64 @@
 -- The laws of the library OS over every world: a reply keeps what it stands for, and a trap makes
 -- it stand for the machine's next turn.
-use Rattle.std.specs.Prelude.{◌≡◌}
+use Rattle.std.specs.Prelude.{◌≡◌, ◌⊎◌, ℕ, List, ◌++◌}
 use Rattle.std.specs.declared.option.Option.TheVariants.{Some}
 use Rattle.abi_calls.specs.declared.call.Call.{Call}
 use Rattle.abi_calls.specs.declared.reply.Reply.{Reply}
 use Rattle.abi_calls.specs.declared.threads.Turned.TheVariants.{Exception}
 use Rattle.abi_calls.specs.declared.threads.Upcall.{Upcall}
 use Rattle.abi_calls.specs.Objects.{Objects}
+use Rattle.bas_edge.specs.Files.{Files}
 use Rattle.abi_calls.specs.World.{World}
-use Rattle.abi_calls.specs.Abi.{Abi, IsTaken}
+use Rattle.abi_calls.specs.Abi.{Abi}
 use Rattle.abi_calls.specs.Sound.{IsSound}
 use Rattle.abi_calls.specs.Turn.{world_turn}
+use Rattle.mono_model.specs.Written.{Written, and_then}
+use Rattle.mono_model.specs.Starting.{Started, Runs}
 use Rattle.mono_model.specs.Turns.{turn_of}
-use Rattle.mono_model.specs.Starting.{Runs}
 use Rattle.libos_state.specs.declared.state.LibOs.{LibOs}
-use Rattle.libos_state.specs.Records.{base}
+use Rattle.libos_state.specs.Records.{Visible, visible, with_visible, base}
 use Rattle.libos_state.specs.Pending.{pending}
-use Rattle.libos_state.specs.Meaning.{meaning}
-use Rattle.libos_state.specs.Fits.{Fits, FitsIdle}
+use Rattle.libos_state.specs.Meaning.{Meaning, meaning, leads_to}
+use Rattle.libos_state.specs.declared.state.Boot.TheVariants.{Going, Up}
+use Rattle.libos_state.specs.Fits.{Fits, FitsUp}
 
--- In every sound world that the library OS fits, and whatever the host answers, the new library OS
--- fits the new world, and the two stand for the same.
+-- The files that something leads to; without a machine they are as they were.
+abbrev pub files_in : Started → Files → Files
+files_in (Runs m) files = m.files
+files_in _ files = files
+
+-- A text is what is left of another, some first bytes of which were taken.
+pub record IsRest (rest whole : List ℕ) : Type 0 where
+  pub taken : List ℕ
+  pub is : whole ≡ taken ++ rest
+
+-- What was stood for in one world is stood for in a later one, behind what was written between the
+-- two; the files are those before or those that it leads to.
+pub record Keeps (w : World) (old : Meaning) (w' : World) (new : Meaning) : Type 0 where
+  pub written : Written
+  pub output : w'.contents.output ≡ w.contents.output ++ written.output
+  pub errors : w'.contents.errors ≡ w.contents.errors ++ written.errors
+  pub input : IsRest w'.contents.input w.contents.input
+  pub files : (w'.contents.files ≡ w.contents.files)
+      ⊎ (w'.contents.files ≡ files_in old.0 w.contents.files)
+  pub same : old ≡ (new.0, and_then written new.1)
+
+-- A reply leads from one library OS in a world to another in the next world: it fits there, the two
+-- stand for the same, a start changes no contents, and a run that has begun goes on.
+pub record GoesOn (old : LibOs) (w : World) (new : LibOs) (w' : World) : Type 0 where
+  pub fits : Fits new w'.objects
+  pub keeps : Keeps w (meaning old (visible w)) w' (meaning new (visible w'))
+  pub quiet : old.boot ≡ Going → w'.contents ≡ w.contents
+  pub up : old.boot ≡ Up → new.boot ≡ Up
+
+-- So it does in every sound world that the library OS fits, whatever the host answers.
 pub record KeepsMeaning (old : LibOs) (reply : Reply) (new : LibOs) : Type 0 where
   pub kept : (w w' : World) (call : Call) → pending old ≡ Some call
-      → Fits old w.objects → IsSound w.objects → Abi w call reply w'
-      → Fits new w'.objects × (meaning new w' ≡ meaning old w)
+      → Fits old w.objects → IsSound w.objects → Abi w call reply w' → GoesOn old w new w'
 
--- The pending call is one that hosts take.
-pub record AsksTaken (os : LibOs) (call : Call) : Type 0 where
-  pub taken : (o : Objects) → Fits os o → IsTaken o call
-
--- In every sound world that the idle library OS fits, a turn that ends with this trap makes the new
--- library OS fit and stand for the machine's next turn.
+-- In every sound world that the library OS fits with nothing in progress, a turn that ends with
+-- this trap makes the new library OS fit and stand for the machine's next turn.
 pub record EntersTurn (old : LibOs) (upcall : Upcall) (new : LibOs) : Type 0 where
-  pub enters : (w : World) (o : Objects) → FitsIdle old w.objects → IsSound w.objects
-      → world_turn w.objects ≡ (Exception upcall, o)
-      → Fits new o × (meaning new (record w { objects = o }) ≡ Runs (turn_of (base old w)))
+  pub enters : (v : Visible) (o : Objects) → old.boot ≡ Up → FitsUp old v.objects
+      → IsSound v.objects → world_turn v.objects ≡ (Exception upcall, o)
+      → Fits new o × (meaning new (with_visible v o) ≡ leads_to (turn_of (base old v)))

@@ -1,8 +1,11 @@
+pub mod Stages
 pub mod Records
 pub mod Pending
 pub mod Answered
 pub mod Entered
 pub mod Meaning
+pub mod Named
 pub mod Fits
+pub mod Turned
 pub mod Laws
 pub mod Kept

@@ -10,38 +10,33 @@ use Rattle.bas_names.specs.declared.StreamName.{StreamName}
 use Rattle.bas_names.specs.declared.StreamName.TheVariants as stream
 use Rattle.abi_calls.specs.Objects.{object_at}
 use Rattle.abi_calls.specs.Streams.{stream_of}
-use Rattle.abi_calls.specs.World.{World}
+use Rattle.abi_calls.specs.declared.threads.Upcall.{Upcall}
 use Rattle.mono_model.specs.Machine.{Mono, resumed, made_ready}
-use Rattle.mono_model.specs.Calls.{Caller, served, write_bytes}
+use Rattle.mono_model.specs.Written.{Written, nothing}
+use Rattle.mono_model.specs.Calls.{Caller, Trap, Served, served, write_bytes}
 use Rattle.mono_model.specs.Program.{plain_program}
 use Rattle.mono_model.specs.Starting.{Job, Started, Runs, NoProgram, BadProgram, blank, started, started_with, begun, start_context, loaded_run, filled_from, with_rights_of, stacked, with_block}
 use Rattle.libos_state.specs.declared.cont.Cont.{Cont}
 use Rattle.libos_state.specs.declared.cont.Stage.{Stage}
-use Rattle.libos_state.specs.declared.cont.Stage.TheVariants.{SetContext, Resume, CloseHandles, ExitProcess, ReadMemory, WriteStream, Configure, OpenConsole, OpenProgram, ProgramLength, ReadProgram, CloseProgram, CreateProcess, AllocateRun, WriteRun, ProtectRun, AllocateStack, WriteBlock, CreateThread, CreateEvent, StartThread}
+use Rattle.libos_state.specs.declared.cont.Stage.TheVariants.{SetContext, Resume, CloseHandles, ExitProcess, ReadBuffer, WriteStream, Configure, OpenConsole, OpenProgram, ProgramLength, ReadProgram, CloseProgram, CreateProcess, AllocateRun, WriteRun, ProtectRun, AllocateStack, WriteBlock, CreateThread, CreateEvent, StartThread}
 use Rattle.libos_state.specs.declared.notes.Description.{Description}
-use Rattle.libos_state.specs.declared.notes.ProcessNote.{ProcessNote}
-use Rattle.libos_state.specs.declared.notes.ThreadNote.{ThreadNote}
 use Rattle.libos_state.specs.declared.state.Boot.{Boot}
 use Rattle.libos_state.specs.declared.state.Boot.TheVariants as boot
 use Rattle.libos_state.specs.declared.state.LibOs.{LibOs}
-use Rattle.libos_state.specs.Records.{base, process_with, thread_with, stream_of_kind, description_behind, memory_of_object, context_of}
+use Rattle.libos_state.specs.Records.{Visible, base, thread_with, stream_of_kind, description_behind, memory_of_object, context_of, tid_of, pid_with}
 use Rattle.libos_state.specs.Pending.{upcall_in, handle, number, program_name, arguments, argument, file_or_child, no_positions, run_in}
 
-abbrev pub tid_of : Option ThreadNote → ℕ
-tid_of None = 0
-tid_of (Some n) = n.tid
-
-abbrev pub pid_of : Option ProcessNote → ℕ
-pid_of None = 0
-pid_of (Some n) = n.pid
-
--- The thread and the process that a service serves, by their ids.
-abbrev pub caller_in : LibOs → Cont → Caller
-caller_in os c = record {
-  thread = tid_of (thread_with (upcall_in c.event).thread os.threads);
-  process = pid_of (process_with (upcall_in c.event).process os.processes);
-  context = (upcall_in c.event).context;
+-- The thread and the process of a trap, by their ids.
+abbrev pub caller_of : LibOs → Upcall → Caller
+caller_of os u = record {
+  thread = tid_of (thread_with u.thread os.threads);
+  process = pid_with os u.process;
+  context = u.context;
 }
+
+-- Those that a service serves.
+abbrev pub caller_in : LibOs → Cont → Caller
+caller_in os c = caller_of os (upcall_in c.event)
 
 abbrev pub stream_described : Option Description → StreamName
 stream_described None = stream.ConIn
@@ -52,7 +47,7 @@ abbrev pub stream_in : LibOs → Cont → StreamName
 stream_in os c = stream_described (description_behind os (upcall_in c.event).process (argument c 0))
 
 -- The machine before the start, with what the host has of it.
-abbrev pub unstarted : World → Mono
+abbrev pub unstarted : Visible → Mono
 unstarted w = blank w.objects.settings w.objects.positions w.contents
 
 abbrev pub job_in : Cont → Job
@@ -66,66 +61,88 @@ name_in (Some stream.ConErr) = []
 name_in None = []
 
 -- The bytes of the open file of the program.
-abbrev pub program_file : World → Cont → List ℕ
+abbrev pub program_file : Visible → Cont → List ℕ
 program_file w c =
     file_bytes w.contents.files (name_in (stream_of (object_at w.objects (file_or_child c))))
 
 -- The memory of the process that is made.
-abbrev pub child_memory : World → Cont → Space
+abbrev pub child_memory : Visible → Cont → Space
 child_memory w c = memory_of_object (object_at w.objects (file_or_child c))
 
 -- The registers of the thread that is made.
-abbrev pub child_context : World → Cont → Context
+abbrev pub child_context : Visible → Cont → Context
 child_context w c = context_of (object_at w.objects (handle c 4))
 
 -- The run begins with this memory, and with these registers.
-abbrev pub begins : World → Space → Context → Started
+abbrev pub begins : Visible → Space → Context → Started
 begins w memory context = Runs (begun (unstarted w) memory context)
 
-abbrev pub begins_with : World → Cont → Space → Started
+abbrev pub begins_with : Visible → Cont → Space → Started
 begins_with w c memory = begins w memory (start_context (plain_program c.bytes) (arguments c))
 
-abbrev pub meant_at : LibOs → World → Cont → Stage → Started
+-- What a service leads to, and what it writes before.
+abbrev pub Meaning : Type 0
+Meaning = Started × Written
+
+-- The machine after serving, with what that writes.
+abbrev pub leads_to : Served → Meaning
+leads_to served = (Runs served.0, served.1)
+
+-- Nothing more is written.
+abbrev pub settles : Started → Meaning
+settles started = (started, nothing)
+
+-- The cause of the trap that a service serves, and its value.
+abbrev pub trap_in : Cont → Trap
+trap_in c = ((upcall_in c.event).cause, (upcall_in c.event).value)
+
+abbrev pub meant_at : LibOs → Visible → Cont → Stage → Meaning
 meant_at os w c SetContext =
-    Runs (resumed (base os w) (caller_in os c).thread (caller_in os c).process c.next)
-meant_at os w c Resume = Runs (made_ready (base os w) (caller_in os c).thread)
-meant_at os w c CloseHandles = Runs (base os w)
-meant_at os w c ExitProcess = Runs (base os w)
-meant_at os w c ReadMemory = Runs (served (base os w) (caller_in os c) (upcall_in c.event).cause)
+    settles (Runs (resumed (base os w) (caller_in os c).thread (caller_in os c).process c.next))
+meant_at os w c Resume = settles (Runs (made_ready (base os w) (caller_in os c).thread))
+meant_at os w c CloseHandles = settles (Runs (base os w))
+meant_at os w c ExitProcess = settles (Runs (base os w))
+meant_at os w c ReadBuffer = leads_to (served (base os w) (caller_in os c) (trap_in c))
 meant_at os w c WriteStream =
-    Runs (write_bytes (base os w) (caller_in os c) (stream_in os c) c.bytes)
-meant_at os w c Configure = started (blank os.settings no_positions w.contents) (job_in c)
-meant_at os w c OpenConsole = started (unstarted w) (job_in c)
-meant_at os w c OpenProgram = started (unstarted w) (job_in c)
-meant_at os w c ProgramLength = started_with (unstarted w) (arguments c) (program_file w c)
+    leads_to (write_bytes (base os w) (caller_in os c) (stream_in os c) c.bytes)
+meant_at os w c Configure = settles (started (blank os.settings no_positions w.contents) (job_in c))
+meant_at os w c OpenConsole = settles (started (unstarted w) (job_in c))
+meant_at os w c OpenProgram = settles (started (unstarted w) (job_in c))
+meant_at os w c ProgramLength =
+    settles (started_with (unstarted w) (arguments c) (program_file w c))
 meant_at os w c ReadProgram =
-    started_with (unstarted w) (arguments c)
-    (c.bytes ++ take (number c 0 - length c.bytes) (drop (length c.bytes) (program_file w c)))
-meant_at os w c CloseProgram = started_with (unstarted w) (arguments c) c.bytes
-meant_at os w c CreateProcess = started_with (unstarted w) (arguments c) c.bytes
+    let rest = take (number c 0 - length c.bytes) (drop (length c.bytes) (program_file w c)) in
+    settles (started_with (unstarted w) (arguments c) (c.bytes ++ rest))
+meant_at os w c CloseProgram = settles (started_with (unstarted w) (arguments c) c.bytes)
+meant_at os w c CreateProcess = settles (started_with (unstarted w) (arguments c) c.bytes)
 meant_at os w c AllocateRun =
-    begins_with w c (stacked (loaded_run (child_memory w c) (run_in c)) (arguments c))
+    let loaded = loaded_run (child_memory w c) (run_in c) in
+    settles (begins_with w c (stacked loaded (arguments c)))
 meant_at os w c WriteRun =
     let at = (run_in c).page * 4096 + number c 1 in
     let filled = filled_from (child_memory w c) at (drop (number c 1) (run_in c).bytes) in
-    begins_with w c (stacked (with_rights_of filled (run_in c)) (arguments c))
+    settles (begins_with w c (stacked (with_rights_of filled (run_in c)) (arguments c)))
 meant_at os w c ProtectRun =
-    begins_with w c (stacked (with_rights_of (child_memory w c) (run_in c)) (arguments c))
-meant_at os w c AllocateStack = begins_with w c (stacked (child_memory w c) (arguments c))
-meant_at os w c WriteBlock = begins_with w c (with_block (child_memory w c) (arguments c))
-meant_at os w c CreateThread = begins_with w c (child_memory w c)
-meant_at os w c CreateEvent = begins w (child_memory w c) (child_context w c)
-meant_at os w c StartThread = begins w (child_memory w c) (child_context w c)
+    let loaded = with_rights_of (child_memory w c) (run_in c) in
+    settles (begins_with w c (stacked loaded (arguments c)))
+meant_at os w c AllocateStack =
+    settles (begins_with w c (stacked (child_memory w c) (arguments c)))
+meant_at os w c WriteBlock =
+    settles (begins_with w c (with_block (child_memory w c) (arguments c)))
+meant_at os w c CreateThread = settles (begins_with w c (child_memory w c))
+meant_at os w c CreateEvent = settles (begins w (child_memory w c) (child_context w c))
+meant_at os w c StartThread = settles (begins w (child_memory w c) (child_context w c))
 
-abbrev pub meant_idle : LibOs → World → Boot → Started
-meant_idle os w boot.Up = Runs (base os w)
-meant_idle os w boot.NoProgram = NoProgram
-meant_idle os w (boot.BadProgram cause) = BadProgram
-meant_idle os w boot.Going = NoProgram
+-- With nothing in progress; a start doesn't go on then.
+abbrev pub meant_settled : LibOs → Visible → Boot → Started
+meant_settled os w boot.Up = Runs (base os w)
+meant_settled os w boot.NoProgram = NoProgram
+meant_settled os w (boot.BadProgram cause) = BadProgram cause
+meant_settled os w boot.Going = NoProgram
 
-abbrev pub meant : LibOs → World → Option Cont → Started
-meant os w None = meant_idle os w os.boot
+abbrev pub meant : LibOs → Visible → Option Cont → Meaning
+meant os w None = settles (meant_settled os w os.boot)
 meant os w (Some c) = meant_at os w c c.stage
 
-abbrev pub meaning : LibOs → World → Started
+abbrev pub meaning : LibOs → Visible → Meaning
 meaning os w = meant os w os.cont

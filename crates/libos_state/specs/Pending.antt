@@ -17,7 +17,7 @@ use Rattle.libos_state.specs.declared.cont.Cont.{Cont}
 use Rattle.libos_state.specs.declared.cont.Event.{Event}
 use Rattle.libos_state.specs.declared.cont.Event.TheVariants.{Boot, Up}
 use Rattle.libos_state.specs.declared.cont.Stage.{Stage}
-use Rattle.libos_state.specs.declared.cont.Stage.TheVariants.{SetContext, Resume, CloseHandles, ExitProcess, ReadMemory, WriteStream, OpenConsole, OpenProgram, ProgramLength, ReadProgram, CloseProgram, CreateProcess, AllocateRun, WriteRun, ProtectRun, AllocateStack, WriteBlock, CreateThread, CreateEvent, StartThread}
+use Rattle.libos_state.specs.declared.cont.Stage.TheVariants.{SetContext, Resume, CloseHandles, ExitProcess, ReadBuffer, WriteStream, OpenConsole, OpenProgram, ProgramLength, ReadProgram, CloseProgram, CreateProcess, AllocateRun, WriteRun, ProtectRun, AllocateStack, WriteBlock, CreateThread, CreateEvent, StartThread}
 use Rattle.libos_state.specs.declared.cont.Stage.TheVariants as stage
 use Rattle.libos_state.specs.declared.notes.Description.{Description}
 use Rattle.libos_state.specs.declared.state.LibOs.{LibOs}
@@ -83,7 +83,7 @@ asked os c SetContext = ThreadContext (upcall_in c.event).thread c.next
 asked os c Resume = ThreadResume (upcall_in c.event).thread
 asked os c CloseHandles = Close (handle c 0)
 asked os c ExitProcess = ProcessExit (upcall_in c.event).process (number c 0 % 256)
-asked os c ReadMemory = MemoryRead (upcall_in c.event).process (argument c 1) (moved (argument c 2))
+asked os c ReadBuffer = MemoryRead (upcall_in c.event).process (argument c 1) (moved (argument c 2))
 asked os c WriteStream = StreamWrite (wanted_stream os c) (number c 0) c.bytes
 asked os c stage.Configure = Configure os.settings no_positions
 asked os c OpenConsole = StreamOpen (console_name (length c.handles)) false false

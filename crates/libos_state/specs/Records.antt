@@ -1,5 +1,5 @@
 -- The records of the library OS, and what its machine is: the host's world through these records.
-use Rattle.std.specs.Prelude.{ℕ, ◌==◌, List, map, find, filter_map, replicate}
+use Rattle.std.specs.Prelude.{ℕ, ◌==◌, Bool, false, List, [], map, find, filter_map, replicate}
 use Rattle.std.specs.Ordering.{nat_cmp}
 use Rattle.std.specs.FinMap.{FinMap, get, empty, from_entries}
 use Rattle.std.specs.Option.{option_map, unwrap_or}
@@ -9,11 +9,13 @@ use Rattle.rv_core.specs.declared.context.Context.{Context}
 use Rattle.guest_space.specs.Space.{Space}
 use Rattle.bas_names.specs.declared.StreamName as stream
 use Rattle.bas_names.specs.declared.StreamName.{StreamName}
-use Rattle.abi_calls.specs.declared.object.Object.TheVariants.{Thread}
-use Rattle.abi_calls.specs.Objects.{Object, Live, running}
+use Rattle.turn_sched.specs.Lists.{Lists, Waiting}
+use Rattle.abi_calls.specs.declared.object.Object.TheVariants.{Thread, Event}
+use Rattle.abi_calls.specs.Objects.{Object, Objects, Live, running}
 use Rattle.abi_calls.specs.World.{World}
+use Rattle.mono_model.specs.Readable.{Readable}
 use Rattle.mono_model.specs.Machine as mono
-use Rattle.mono_model.specs.Machine.{Mono}
+use Rattle.mono_model.specs.Machine.{Mono, Waiter, Target, Opened, Exits, Wakes, Gone}
 use Rattle.libos_state.specs.declared.notes.Kind.{Kind}
 use Rattle.libos_state.specs.declared.notes.Kind.TheVariants.{ConIn, ConOut, ConErr}
 use Rattle.libos_state.specs.declared.notes.Description.{Description}
@@ -40,6 +42,13 @@ thread_named tid notes = find (λ n. n.tid == tid) notes
 
 abbrev pub thread_with : ℕ → List ThreadNote → Option ThreadNote
 thread_with handle notes = find (λ n. n.handle == handle) notes
+
+-- The thread that an event wakes.
+abbrev pub thread_woken_by : ℕ → List ThreadNote → Option ThreadNote
+thread_woken_by event notes = find (λ n. n.event == event) notes
+
+abbrev pub description_with : ℕ → List Description → Option Description
+description_with handle notes = find (λ d. d.handle == handle) notes
 
 abbrev pub description_named : ℕ → List Description → Option Description
 description_named id notes = find (λ d. d.id == id) notes
@@ -86,9 +95,18 @@ abbrev pub context_of : Option Object → Context
 context_of (Some (Thread process context)) = context
 context_of _ = no_context
 
+-- Whether an event is set.
+abbrev pub is_set : Option Object → Bool
+is_set (Some (Event set)) = set
+is_set _ = false
+
+-- A thread was woken where its event is set.
 abbrev pub thread_seen : Live → ThreadNote → mono.Thread
-thread_seen live n =
-    record { process = n.pid; context = context_of (get {R = nat_cmp} live n.handle) }
+thread_seen live n = record {
+  process = n.pid;
+  context = context_of (get {R = nat_cmp} live n.handle);
+  woken = is_set (get {R = nat_cmp} live n.event);
+}
 
 abbrev pub description_seen : Description → mono.Description
 description_seen d = record { stream = stream_of_kind d.kind; access = d.access }
@@ -106,18 +124,79 @@ descriptions_of notes = from_entries (map (λ d. (d.id, description_seen d)) not
 abbrev pub tids_of : List ThreadNote → List ℕ → List ℕ
 tids_of notes handles = filter_map (λ h. option_map (λ n. n.tid) (thread_with h notes)) handles
 
+-- What a waited number stands for: the description, the process or the thread's event that a record
+-- has it for; without a record it has gone.
+abbrev pub target_by : Option Description → Option ProcessNote → Option ThreadNote → Target
+target_by (Some d) process thread = Opened d.id
+target_by None (Some n) thread = Exits n.pid
+target_by None None (Some n) = Wakes n.tid
+target_by None None None = Gone
+
+abbrev pub target_of : LibOs → ℕ → Target
+target_of os h =
+    target_by (description_with h os.descriptions) (process_with h os.processes)
+    (thread_woken_by h os.threads)
+
+-- A waiting thread by its id, if it has a record.
+abbrev pub waiter_of : LibOs → Waiting → Option Waiter
+waiter_of os w = option_map
+    (λ n. record { thread = n.tid; targets = map (target_of os) w.handles; deadline = w.deadline })
+    (thread_with w.thread os.threads)
+
+-- The lists of a host by the ids of the threads.
+abbrev pub lists_of : LibOs → Lists Waiting → Lists Waiter
+lists_of os l = record {
+  ready = tids_of os.threads l.ready;
+  waiting = filter_map (waiter_of os) l.waiting;
+  suspended = [];
+  current = None;
+}
+
+-- What programs can see of a world: its objects, the files and the input, but nothing that was
+-- written to the console.
+pub record Visible : Type 0 where
+  pub objects : Objects
+  pub contents : Readable
+
+abbrev pub visible : World → Visible
+visible w = record {
+  objects = w.objects;
+  contents = record { files = w.contents.files; input = w.contents.input };
+}
+
+abbrev pub with_visible : Visible → Objects → Visible
+with_visible v o = record v { objects = o }
+
 -- The machine that the records name in a world.
-abbrev pub base : LibOs → World → Mono
+abbrev pub base : LibOs → Visible → Mono
 base os w = record {
   processes = processes_of os.processes w.objects.live;
   threads = threads_of os.threads w.objects.live;
   descriptions = descriptions_of os.descriptions;
-  ready = tids_of os.threads w.objects.lists.ready;
+  lists = lists_of os w.objects.lists;
   files = w.contents.files;
   input = w.contents.input;
-  output = w.contents.output;
-  errors = w.contents.errors;
   next_id = os.next_id;
   positions = w.objects.positions;
   settings = w.objects.settings;
 }
+
+abbrev pub tid_of : Option ThreadNote → ℕ
+tid_of None = 0
+tid_of (Some n) = n.tid
+
+abbrev pub pid_of : Option ProcessNote → ℕ
+pid_of None = 0
+pid_of (Some n) = n.pid
+
+-- The id of the process that has a handle.
+abbrev pub pid_with : LibOs → ℕ → ℕ
+pid_with os handle = pid_of (process_with handle os.processes)
+
+-- The exit code that the record of process 1 holds.
+abbrev pub code_of : Option ProcessNote → Option ℕ
+code_of None = None
+code_of (Some n) = n.code
+
+abbrev pub exit_code : LibOs → Option ℕ
+exit_code os = code_of (process_named 1 os.processes)

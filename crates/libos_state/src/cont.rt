@@ -26,7 +26,7 @@ pub enum Stage {
     /// The process ends.
     ExitProcess,
     /// The bytes to be written are read from the caller's memory.
-    ReadMemory,
+    ReadBuffer,
     /// The bytes are written to the stream.
     WriteStream,
     /// The host gets the settings.

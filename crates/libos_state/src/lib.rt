@@ -8,6 +8,7 @@ mod state;
 mod step;
 
 pub use cont::{Cont, Event, Stage};
-pub use notes::{Description, DescriptorNote, Kind, ProcessNote, ProgramRefusal, ThreadNote};
+pub use mono_model::ProgramRefusal;
+pub use notes::{Description, DescriptorNote, Kind, ProcessNote, ThreadNote};
 pub use state::{Boot, LibOs};
 pub use step::{Change, Step};

@@ -1,13 +1,4 @@
 use bas_items::Items;
-use thiserror::Error;
-
-/// Why a program file is refused.
-#[derive(Clone, Copy, Debug, PartialEq, Eq, Error)]
-pub enum ProgramRefusal {
-    /// The file isn't of the one form that is taken so far.
-    #[error("not a program of the form that is taken so far")]
-    Later,
-}
 
 /// What an open description is open on.
 #[derive(Clone, Copy, Debug, PartialEq, Eq)]

@@ -1,7 +1,8 @@
 use crate::cont::Cont;
-use crate::notes::{Description, ProcessNote, ProgramRefusal, ThreadNote};
+use crate::notes::{Description, ProcessNote, ThreadNote};
 use abi_calls::Settings;
 use bas_items::Items;
+use mono_model::ProgramRefusal;
 
 /// How far the start of the run is.
 #[derive(Clone, Copy, Debug, PartialEq, Eq)]

@@ -1,8 +1,10 @@
--- What a trapped thread's system call or fault does, in one step on whole texts. The numbers of the calls and of the
--- errors are Linux's generic ones. The number stands in a7, arguments in a0 to a5, the result in a0.
-use Rattle.std.specs.Prelude.{ℕ, ◌-◌, ◌%◌, ◌^◌, ◌==◌, if◌then◌else◌, List, [], ◌++◌, length, min, bit_and}
+-- What a trapped thread's system call or fault does, in one step on whole texts, and what it writes.
+-- The numbers of the calls and of the errors are Linux's generic ones. The number stands in a7,
+-- arguments in a0 to a5, the result in a0.
+use Rattle.std.specs.Prelude.{ℕ, ◌-◌, ◌%◌, ◌^◌, ◌==◌, Bool, false, not, ◌&&◌, if◌then◌else◌, List, [], map, filter, length, min, bit_and}
+use Rattle.std.specs.List.{list_any}
 use Rattle.std.specs.Ordering.{nat_cmp}
-use Rattle.std.specs.FinMap.{get, insert, empty}
+use Rattle.std.specs.FinMap.{get, insert, empty, entries, values, retain_keys}
 use Rattle.std.specs.declared.option.Option.{Option}
 use Rattle.std.specs.declared.option.Option.TheVariants.{None, Some}
 use Rattle.rv_core.specs.declared.context.Context.{Context}
@@ -10,7 +12,9 @@ use Rattle.guest_space.specs.Space.{Space, memory_of, bytes_from}
 use Rattle.guest_space.specs.Access.{AccessFault, first_fault}
 use Rattle.bas_names.specs.declared.StreamName.{StreamName}
 use Rattle.bas_names.specs.declared.StreamName.TheVariants.{File, ConIn, ConOut, ConErr}
-use Rattle.mono_model.specs.Machine.{Mono, Process, Description, exited, returned, register, resumed, process_at}
+use Rattle.turn_sched.specs.Lists.{contains}
+use Rattle.mono_model.specs.Machine.{Mono, Process, Description, Target, Opened, Exits, Wakes, Gone, Waiter, exited, returned, register, resumed, process_at, is_thread_in}
+use Rattle.mono_model.specs.Written.{Written, nothing}
 
 -- The system calls that there are so far.
 abbrev pub WRITE : ℕ
@@ -38,6 +42,18 @@ pub record Caller : Type 0 where
   pub thread : ℕ
   pub process : ℕ
   pub context : Context
+
+-- The cause of a trap and its value.
+abbrev pub Trap : Type 0
+Trap = ℕ × ℕ
+
+-- What serving a trap does: the machine after it, and what was written.
+abbrev pub Served : Type 0
+Served = Mono × Written
+
+-- Nothing is written.
+abbrev pub silently : Mono → Served
+silently m = (m, nothing)
 
 -- The thread gets the result and goes on behind the call.
 abbrev pub finished : Mono → Caller → ℕ → Mono
@@ -72,52 +88,84 @@ memory_at m p = memory_in (process_at m p)
 abbrev pub moved : ℕ → ℕ
 moved count = min count 65536
 
--- Bytes that were read go to the stream, at its end.
-abbrev pub sent : Mono → StreamName → List ℕ → Mono
-sent m ConOut bytes = record m { output = m.output ++ bytes }
-sent m ConErr bytes = record m { errors = m.errors ++ bytes }
-sent m ConIn bytes = m
-sent m (File name) bytes = m
+-- Bytes that go to a stream of the console; its input takes none, and files aren't written yet.
+abbrev pub sent : StreamName → List ℕ → Written
+sent ConOut bytes = record { output = bytes; errors = [] }
+sent ConErr bytes = record { output = []; errors = bytes }
+sent ConIn bytes = nothing
+sent (File name) bytes = nothing
 
-abbrev pub write_bytes : Mono → Caller → StreamName → List ℕ → Mono
-write_bytes m who stream bytes = finished (sent m stream bytes) who (length bytes)
+abbrev pub write_bytes : Mono → Caller → StreamName → List ℕ → Served
+write_bytes m who stream bytes = (finished m who (length bytes), sent stream bytes)
 
-abbrev pub write_unless : Mono → Caller → StreamName → List ℕ → Option AccessFault → Mono
+abbrev pub write_unless : Mono → Caller → StreamName → List ℕ → Option AccessFault → Served
 write_unless m who stream bytes None = write_bytes m who stream bytes
-write_unless m who stream bytes (Some fault) = finished m who (error EFAULT)
+write_unless m who stream bytes (Some fault) = silently (finished m who (error EFAULT))
 
 -- The bytes are read from the caller's memory: EFAULT where one isn't there or can't be read.
-abbrev pub write_from : Mono → Caller → StreamName → ℕ → ℕ → Mono
+abbrev pub write_from : Mono → Caller → StreamName → ℕ → ℕ → Served
 write_from m who stream address count =
     let memory = memory_of (memory_at m who.process) in
     write_unless m who stream (bytes_from memory address count) (first_fault memory 1 address count)
 
-abbrev pub write_to : Mono → Caller → Option StreamName → Mono
-write_to m who None = finished m who (error EBADF)
+abbrev pub write_to : Mono → Caller → Option StreamName → Served
+write_to m who None = silently (finished m who (error EBADF))
 write_to m who (Some stream) =
-    if register who.context 12 == 0 then finished m who 0
+    if register who.context 12 == 0 then silently (finished m who 0)
     else write_from m who stream (register who.context 11) (moved (register who.context 12))
 
--- write(fd, buf, n): EBADF where fd isn't open for writing. n is cut to 65,536, and 0 writes nothing.
-abbrev pub write : Mono → Caller → Mono
+-- write(fd, buf, n): EBADF where fd isn't open for writing. n is cut to 65,536, and 0 writes
+-- nothing.
+abbrev pub write : Mono → Caller → Served
 write m who = write_to m who (writable (description_of m who.process (register who.context 10)))
 
--- A process ends, which is the only one there is so far: its threads and its descriptions end with it.
-abbrev pub ended : Mono → ℕ → ℕ → Mono
-ended m p code = record m { processes = insert m.processes p (exited code); threads = empty; descriptions = empty; ready = [] }
+-- A descriptor of a process other than p names the description.
+abbrev pub names_description : ℕ → ℕ → ℕ × Process → Bool
+names_description p id entry =
+    not (entry.0 == p) && contains (values entry.1.descriptors) id
 
--- exit(c) ends the thread, and with the last one the process, with c modulo 256.
+abbrev pub is_open_without : Mono → ℕ → ℕ → Bool
+is_open_without m p id = list_any (names_description p id) (entries m.processes)
+
+-- A target that goes with a process: an open description that no other process names, or that a
+-- thread of it is woken.
+abbrev pub goes_with : Mono → ℕ → Target → Bool
+goes_with m p (Opened d) = not (is_open_without m p d)
+goes_with m p (Exits q) = false
+goes_with m p (Wakes t) = is_thread_in m p t
+goes_with m p Gone = false
+
+abbrev pub target_left : Mono → ℕ → Target → Target
+target_left m p target = if goes_with m p target then Gone else target
+
+abbrev pub waiter_left : Mono → ℕ → Waiter → Waiter
+waiter_left m p w = record w { targets = map (target_left m p) w.targets }
+
+-- A process ends: its threads end, it keeps its code alone, and the descriptions that it alone had
+-- open are closed.
+abbrev pub ended : Mono → ℕ → ℕ → Mono
+ended m p code = record m {
+  processes = insert m.processes p (exited code);
+  threads = retain_keys m.threads (λ t. not (is_thread_in m p t));
+  descriptions = retain_keys m.descriptions (is_open_without m p);
+  lists = record m.lists {
+    ready = filter (λ t. not (is_thread_in m p t)) m.lists.ready;
+    waiting = map (waiter_left m p) (filter (λ w. not (is_thread_in m p w.thread)) m.lists.waiting);
+  };
+}
+
+-- exit(c) ends the process, with c modulo 256.
 abbrev pub exit : Mono → Caller → Mono
 exit m who = ended m who.process (register who.context 10 % 256)
 
-abbrev pub system_call : Mono → Caller → ℕ → Mono
+abbrev pub system_call : Mono → Caller → ℕ → Served
 system_call m who number =
     if number == WRITE then write m who
-    else (if number == EXIT then exit m who
-    else finished m who (error ENOSYS))
+    else (if number == EXIT then silently (exit m who)
+    else silently (finished m who (error ENOSYS)))
 
--- The exit code of a process that a fault ends, by the cause: 132 an illegal instruction, 133 a breakpoint, 135 a
--- misaligned instruction address, 139 an access.
+-- The exit code of a process that a fault ends, by the cause: 132 an illegal instruction, 133 a
+-- breakpoint, 135 a misaligned instruction address, 139 an access.
 abbrev pub fault_code : ℕ → ℕ
 fault_code cause =
     if cause == 2 then 132
@@ -126,7 +174,7 @@ fault_code cause =
     else 139))
 
 -- What a trap does: cause 8 is a system call, every other a fault.
-abbrev pub served : Mono → Caller → ℕ → Mono
-served m who cause =
-    if cause == 8 then system_call m who (register who.context 17)
-    else ended m who.process (fault_code cause)
+abbrev pub served : Mono → Caller → Trap → Served
+served m who trap =
+    if trap.0 == 8 then system_call m who (register who.context 17)
+    else silently (ended m who.process (fault_code trap.0))

@@ -1,5 +1,6 @@
--- The monolithic machine: processes, threads and open descriptions by their ids, and the contents of the outside.
-use Rattle.std.specs.Prelude.{ℕ, ◌+◌, ◌-◌, ◌%◌, ◌^◌, List, [], ◌∷◌, ◌++◌, slice_index, slice_set}
+-- The monolithic machine: processes, threads and open descriptions by their ids, where its threads
+-- stand, and the files and the input. It has no output: what is written is what a turn answers.
+use Rattle.std.specs.Prelude.{ℕ, ◌+◌, ◌-◌, ◌%◌, ◌^◌, ◌==◌, Bool, false, List, [], ◌∷◌, slice_index, slice_set}
 use Rattle.std.specs.Ordering.{nat_cmp}
 use Rattle.std.specs.FinMap.{FinMap, get, insert, empty}
 use Rattle.std.specs.declared.option.Option.{Option}
@@ -8,6 +9,7 @@ use Rattle.rv_core.specs.declared.context.Context.{Context}
 use Rattle.guest_space.specs.Space.{Space}
 use Rattle.bas_edge.specs.Files.{Files}
 use Rattle.bas_names.specs.declared.StreamName.{StreamName}
+use Rattle.turn_sched.specs.Lists.{Lists, with_ready}
 use Rattle.abi_calls.specs.declared.settings.Positions.{Positions}
 use Rattle.abi_calls.specs.declared.settings.Settings.{Settings}
 
@@ -16,26 +18,41 @@ pub record Description : Type 0 where
   pub stream : StreamName
   pub access : ℕ
 
--- A process: its memory, its exit code once it has exited, and its descriptors, each naming a description.
+-- A process: its memory, its exit code once it has exited, and its descriptors, each naming a
+-- description.
 pub record Process : Type 0 where
   pub memory : Space
   pub code : Option ℕ
   pub descriptors : FinMap nat_cmp ℕ
 
--- A thread of a process, with its registers.
+-- A thread of a process, with its registers, and whether it was woken.
 pub record Thread : Type 0 where
   pub process : ℕ
   pub context : Context
+  pub woken : Bool
 
+-- What a thread can wait for: an open description, the exit of a process, that a thread is woken,
+-- or what has gone since.
+pub data Target : Type 0 where
+  Opened : (description : ℕ) → Target
+  Exits : (process : ℕ) → Target
+  Wakes : (thread : ℕ) → Target
+  Gone : Target
+
+-- A thread that waits for one of several targets, or until a time.
+pub record Waiter : Type 0 where
+  pub thread : ℕ
+  pub targets : List Target
+  pub deadline : Option ℕ
+
+-- Threads are ready or wait, or stand still; none is kept as suspended or current.
 pub record Mono : Type 0 where
   pub processes : FinMap nat_cmp Process
   pub threads : FinMap nat_cmp Thread
   pub descriptions : FinMap nat_cmp Description
-  pub ready : List ℕ
+  pub lists : Lists Waiter
   pub files : Files
   pub input : List ℕ
-  pub output : List ℕ
-  pub errors : List ℕ
   pub next_id : ℕ
   pub positions : Positions
   pub settings : Settings
@@ -64,6 +81,19 @@ exit_code m p = code_in (process_at m p)
 abbrev pub exited : ℕ → Process
 exited code = record { memory = empty; code = Some code; descriptors = empty }
 
+-- Whether a thread was woken.
+abbrev pub is_woken : Option Thread → Bool
+is_woken None = false
+is_woken (Some thread) = thread.woken
+
+-- A thread of a process.
+abbrev pub is_of_process : ℕ → Option Thread → Bool
+is_of_process p None = false
+is_of_process p (Some thread) = thread.process == p
+
+abbrev pub is_thread_in : Mono → ℕ → ℕ → Bool
+is_thread_in m p t = is_of_process p (thread_at m t)
+
 -- Register n, of 1 to 31.
 abbrev pub register : Context → ℕ → ℕ
 register cx n = slice_index cx.x (n - 1)
@@ -74,8 +104,16 @@ returned cx result = record { pc = (cx.pc + 4) % 2 ^ 64; x = slice_set cx.x 9 re
 
 -- A thread joins the end of the ready list.
 abbrev pub made_ready : Mono → ℕ → Mono
-made_ready m t = record m { ready = m.ready ++ t ∷ [] }
+made_ready m t = record m { lists = with_ready m.lists t }
+
+-- A thread of process p with these registers; it stays woken if it was.
+abbrev pub with_registers : Context → Option Thread → ℕ → Thread
+with_registers context thread p =
+    record { process = p; context = context; woken = is_woken thread }
+
+abbrev pub with_context : Mono → ℕ → ℕ → Context → Mono
+with_context m t p context = with_thread m t (with_registers context (thread_at m t) p)
 
 -- A thread gets these registers and joins the end of the ready list.
 abbrev pub resumed : Mono → ℕ → ℕ → Context → Mono
-resumed m t p cx = made_ready (with_thread m t (record { process = p; context = cx })) t
+resumed m t p context = made_ready (with_context m t p context) t

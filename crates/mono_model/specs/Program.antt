@@ -3,10 +3,12 @@
 use Rattle.std.specs.Prelude.{ℕ, ◌+◌, ◌-◌, ◌*◌, ◌/◌, ◌^◌, Bool, ◌&&◌, if◌then◌else◌, nat_le, List, [], ◌∷◌, ◌++◌, length, take, drop, replicate}
 use Rattle.std.specs.Str.{bytes_eq}
 use Rattle.std.specs.Int.{to_le_bytes, w64}
-use Rattle.std.specs.declared.option.Option.{Option}
-use Rattle.std.specs.declared.option.Option.TheVariants.{None, Some}
+use Rattle.std.specs.declared.result.Result.{Result}
+use Rattle.std.specs.declared.result.Result.TheVariants.{Ok, Err}
 use Rattle.elf_loader.specs.declared.Program.{Program}
 use Rattle.elf_loader.specs.declared.Run.{Run}
+use Rattle.mono_model.specs.declared.ProgramRefusal.{ProgramRefusal}
+use Rattle.mono_model.specs.declared.ProgramRefusal.TheVariants.{Later}
 
 -- The ELF header (e_ident, then its fields) of a file with one program header at 64 and the entry 0x10078.
 abbrev pub elf_header : List ℕ
@@ -48,5 +50,5 @@ abbrev pub plain_program : List ℕ → Program
 plain_program file = record { entry = 0x10078; runs = plain_run file ∷ []; end = (16 + page_count file) * 4096 }
 
 -- The program that a file stands for, if it is of the form.
-abbrev pub program_of : List ℕ → Option Program
-program_of file = if is_plain file then Some (plain_program file) else None
+abbrev pub program_of : List ℕ → Result Program ProgramRefusal
+program_of file = if is_plain file then Ok (plain_program file) else Err Later

@@ -1,11 +1,13 @@
 -- How a run starts: the program is opened, read and loaded, and one process with one thread begins.
-use Rattle.std.specs.Prelude.{ℕ, ◌+◌, ◌-◌, ◌*◌, ◌/◌, ◌^◌, List, [], ◌∷◌, ◌++◌, length, sum_by, replicate}
+use Rattle.std.specs.Prelude.{ℕ, ◌+◌, ◌-◌, ◌*◌, ◌/◌, ◌^◌, false, List, [], ◌∷◌, ◌++◌, length, sum_by, replicate}
 use Rattle.std.specs.List.{flat_map}
 use Rattle.std.specs.Int.{to_le_bytes, w64}
 use Rattle.std.specs.Ordering.{nat_cmp}
 use Rattle.std.specs.FinMap.{FinMap, insert, empty}
 use Rattle.std.specs.declared.option.Option.{Option}
 use Rattle.std.specs.declared.option.Option.TheVariants.{None, Some}
+use Rattle.std.specs.declared.result.Result.{Result}
+use Rattle.std.specs.declared.result.Result.TheVariants.{Ok, Err}
 use Rattle.rv_core.specs.declared.context.Context.{Context}
 use Rattle.guest_space.specs.Space.{Space, memory_of, with_run, protected, with_memory}
 use Rattle.guest_space.specs.Access.{with_bytes}
@@ -13,10 +15,12 @@ use Rattle.bas_edge.specs.Files.{file_of}
 use Rattle.bas_names.specs.declared.StreamName.TheVariants.{ConIn, ConOut, ConErr}
 use Rattle.abi_calls.specs.declared.settings.Positions.{Positions}
 use Rattle.abi_calls.specs.declared.settings.Settings.{Settings}
-use Rattle.abi_calls.specs.World.{Contents}
+use Rattle.mono_model.specs.Readable.{Readable}
 use Rattle.mono_model.specs.Machine.{Mono, Description}
 use Rattle.elf_loader.specs.declared.Program.{Program}
 use Rattle.elf_loader.specs.declared.Run.{Run}
+use Rattle.turn_sched.specs.Lists.{no_threads, with_ready}
+use Rattle.mono_model.specs.declared.ProgramRefusal.{ProgramRefusal}
 use Rattle.mono_model.specs.Program.{program_of}
 
 -- The name of the program that is opened, and the program's arguments, of which the first is its own name.
@@ -24,23 +28,22 @@ pub record Job : Type 0 where
   pub name : List ℕ
   pub args : List (List ℕ)
 
--- What a start leads to.
+-- What a run begins with: a machine; or there is no file of the program's name, or it is no program
+-- for this cause.
 pub data Started : Type 0 where
   Runs : Mono → Started
   NoProgram : Started
-  BadProgram : Started
+  BadProgram : (cause : ProgramRefusal) → Started
 
 -- The machine before the start.
-abbrev pub blank : Settings → Positions → Contents → Mono
+abbrev pub blank : Settings → Positions → Readable → Mono
 blank settings positions c = record {
   processes = empty;
   threads = empty;
   descriptions = empty;
-  ready = [];
+  lists = no_threads;
   files = c.files;
   input = c.input;
-  output = c.output;
-  errors = c.errors;
   next_id = 1;
   positions = positions;
   settings = settings;
@@ -119,19 +122,28 @@ abbrev pub console_descriptions : FinMap nat_cmp Description
 console_descriptions =
     insert (insert (insert empty 3 (record { stream = ConErr; access = 2 })) 2 (record { stream = ConOut; access = 2 })) 1 (record { stream = ConIn; access = 1 })
 
--- The first process and its thread, both with the id 1, over this memory.
-abbrev pub begun : Mono → Space → Context → Mono
-begun m memory context = record m {
-  processes = insert empty 1 (record { memory = memory; code = None; descriptors = console_descriptors });
-  threads = insert empty 1 (record { process = 1; context = context });
-  descriptions = console_descriptions;
-  ready = 1 ∷ [];
-  next_id = 2;
+-- A process begins with one thread, which becomes ready; both get the next id.
+abbrev pub with_child : Mono → Space → Context → FinMap nat_cmp ℕ → Mono
+with_child m memory context descriptors = record m {
+  processes =
+      insert m.processes m.next_id
+      (record { memory = memory; code = None; descriptors = descriptors });
+  threads =
+      insert m.threads m.next_id
+      (record { process = m.next_id; context = context; woken = false });
+  lists = with_ready m.lists m.next_id;
+  next_id = m.next_id + 1;
 }
 
-abbrev pub begun_from : Mono → List (List ℕ) → Option Program → Started
-begun_from m args None = BadProgram
-begun_from m args (Some program) = Runs (begun m (stacked (loaded empty program.runs) args) (start_context program args))
+-- The first process begins, with the console open.
+abbrev pub begun : Mono → Space → Context → Mono
+begun m memory context =
+    record (with_child m memory context console_descriptors) { descriptions = console_descriptions }
+
+abbrev pub begun_from : Mono → List (List ℕ) → Result Program ProgramRefusal → Started
+begun_from m args (Err cause) = BadProgram cause
+begun_from m args (Ok program) =
+    Runs (begun m (stacked (loaded empty program.runs) args) (start_context program args))
 
 -- The file's bytes are the program.
 abbrev pub started_with : Mono → List (List ℕ) → List ℕ → Started
@@ -145,6 +157,7 @@ started_if m args (Some file) = started_with m args file
 abbrev pub started : Mono → Job → Started
 started m job = started_if m job.args (file_of m.files job.name)
 
--- A run's start: at turn 0, over these contents.
-abbrev pub boot : Settings → Contents → Job → Started
-boot settings contents job = started (blank settings (record { turns = 0; pick = 0; random = 0 }) contents) job
+-- A run's start: at turn 0, over these files and this input.
+abbrev pub boot : Settings → Readable → Job → Started
+boot settings contents job =
+    started (blank settings (record { turns = 0; pick = 0; random = 0 }) contents) job

@@ -1,243 +1,234 @@
--- A service, a turn or a run that is given up.
-use Rattle.std.proofs.Common.{◌≡◌, ◌⊎◌, inl, inr, ℕ, suc, ◌+◌, ◌-◌, ◌≤◌, List, [], ◌∷◌, ◌++◌, length, drop, refl, sym, ◌∙◌, ap, subst, append-nil, append_assoc, length-append, arith}
+-- A service or a turn that is given up.
+use Rattle.std.proofs.Common.{◌≡◌, ◌⊎◌, inl, inr, ℕ, List, [], ◌∷◌, ◌++◌, zero, suc, take, drop, length, arith, refl, sym, ap, subst, ◌∙◌, append_assoc, append-nil}
+use Rattle.std.proofs.lemmas.List.{take-append-drop, length-append, length-drop}
 use Rattle.std.specs.declared.option.Option.{Option}
 use Rattle.std.specs.declared.option.Option.TheVariants.{None, Some}
 use Rattle.bas_edge.specs.Files.{Files}
 use Rattle.abi_calls.specs.declared.call.Call.{Call}
 use Rattle.abi_calls.specs.declared.reply.Reply.{Reply}
-use Rattle.abi_calls.specs.declared.threads.Turned.TheVariants.{Exception}
-use Rattle.abi_calls.specs.declared.threads.Upcall.{Upcall}
 use Rattle.abi_calls.specs.Objects.{Objects}
-use Rattle.abi_calls.specs.World.{Contents, Told, WhereTold, world_of, whole, whole_of}
+use Rattle.abi_calls.specs.World.{Told}
 use Rattle.abi_calls.specs.Abi.{Answers}
-use Rattle.abi_calls.specs.Failing.{Leaves, Nothing, Part, IsPartDone, with_text, without_front}
+use Rattle.abi_calls.specs.Failing.{with_text, without_front, IsPartWritten, IsPartTaken, IsPartDone, Leaves, Nothing, Part}
 use Rattle.abi_calls.specs.Sound.{IsSound}
-use Rattle.abi_calls.specs.Turn.{world_turn}
-use Rattle.mono_model.specs.Machine.{Mono}
-use Rattle.mono_model.specs.Turns.{turn_of}
-use Rattle.mono_model.specs.Starting.{Started, Runs, NoProgram, BadProgram}
-use Rattle.libos_state.specs.declared.state.LibOs.{LibOs}
-use Rattle.libos_state.specs.Records.{base}
+use Rattle.mono_model.specs.Readable.{Readable}
+use Rattle.mono_model.specs.Written.{Written, nothing, and_then}
+use Rattle.mono_model.specs.Starting.{Started}
+use Rattle.libos_state.specs.Meaning.{Meaning}
 use Rattle.libos_state.specs.Pending.{pending}
 use Rattle.libos_state.specs.Answered.{answered}
-use Rattle.libos_state.specs.Meaning.{meaning}
-use Rattle.libos_state.specs.Fits.{Fits, FitsIdle, FitsUp, exit_code}
-use Rattle.libos_state.specs.Laws.{AsksTaken, EntersTurn}
+use Rattle.libos_state.specs.Fits.{Fits}
+use Rattle.libos_state.specs.Laws.{IsRest, files_in, KeepsMeaning}
 use Rattle.libos_state.proofs.Stages.{answered_keeps}
-use Rattle.turn_engine.specs.Serves.{Serves, IsUp, MakesTurn}
-use Rattle.turn_engine.specs.Halts.{IsFront, FrontsMachine, IsUnwritten, Fronts, Halts, HaltsTurn, HaltsRun, FrontsRun, MakesTurns, after_turns}
-use Rattle.turn_engine.proofs.Telling.{told_same, told_then}
-use Rattle.turn_engine.proofs.Serving.{stands_then}
-use Rattle.turn_engine.proofs.Steps.{answer_serves}
-use Rattle.turn_engine.proofs.Fronts.{begins_same, begins_turn, fronts_now}
-
--- ---- nothing, or a part, of what is on the way
-
--- All parts are told.
-record AllTold (t : Told) (x : Contents) : Type 0 where
-  pub files : t.files ≡ Some x.files
-  pub input : t.input ≡ Some x.input
-  pub output : t.output ≡ Some x.output
-  pub errors : t.errors ≡ Some x.errors
-
-all_told : (files : Option Files) (input output errors : Option (List ℕ)) (x : Contents) → whole_of files input output errors ≡ Some x
-    → AllTold (record { files = files; input = input; output = output; errors = errors }) x
-all_told (Some f) (Some i) (Some o) (Some e) x told =
-    let same : ◌≡◌ {A = Contents} (record { files = f; input = i; output = o; errors = e }) x = cc in
-    record {
-      files = ap (λ (c : Contents). Some c.files) same;
-      input = ap (λ (c : Contents). Some c.input) same;
-      output = ap (λ (c : Contents). Some c.output) same;
-      errors = ap (λ (c : Contents). Some c.errors) same;
-    }
-all_told (Some f) (Some i) (Some o) None x told = absurd (cc)
-all_told (Some f) (Some i) None e x told = absurd (cc)
-all_told (Some f) None o e x told = absurd (cc)
-all_told None i o e x told = absurd (cc)
+use Rattle.turn_engine.specs.Inside.{readable_of, readable, WhereReadable, IsLonger}
+use Rattle.turn_engine.specs.Moment.{Moment, moment, meaning_at}
+use Rattle.turn_engine.specs.Serves.{Carries, Serves}
+use Rattle.turn_engine.specs.Halts.{IsGivenUp, Halts, ServesNoTrap}
+use Rattle.turn_engine.proofs.Telling.{IsWritten-nothing, IsWritten-then, where-same, where-then}
+use Rattle.turn_engine.proofs.Carrying.{IsRest-same, IsRest-then, files_in-then, Carries-answered, Serves-answered, told-start, pending-start}
 
 -- nothing was done
-pub halts_same : (os : LibOs) (o : Objects) (t : Told) → Halts os o t t
-halts_same os o t = record { halts = told_same t (λ x y. Fronts (meaning os (world_of o x)) x y) (λ x. fronts_now os o x) }
-
-front_then : (a b c : List ℕ) → IsFront a b → IsFront b c → IsFront a c
-front_then a b c p q = record { rest = p.rest ++ q.rest; is = q.is ∙ ap (λ z. z ++ q.rest) p.is ∙ append_assoc a p.rest q.rest }
-
-nothing_put : (xs ys zs : List ℕ) → (xs ++ ys) ++ zs ≡ xs → ys ≡ []
-nothing_put xs [] zs e = refl
-nothing_put xs (y ∷ ys) zs e = absurd (let n = ap (length {A = ℕ}) e in omega (arith, n, length-append (xs ++ y ∷ ys) zs, length-append xs (y ∷ ys)))
-
--- Contents in this order: before, at a part, and after.
-record Ordered (x y' y : Contents) : Type 0 where
-  pub output : IsFront x.output y'.output
-  pub output_later : IsFront y'.output y.output
-  pub errors : IsFront x.errors y'.errors
-  pub errors_later : IsFront y'.errors y.errors
-  pub files : (y'.files ≡ x.files) ⊎ (y'.files ≡ y.files)
-
-unwritten_part : (xs ys zs : List ℕ) → IsFront xs ys → IsFront ys zs → zs ≡ xs → ys ≡ xs
-unwritten_part xs ys zs p q same =
-    let joined : (xs ++ p.rest) ++ q.rest ≡ xs = ap (λ a. a ++ q.rest) (sym p.is) ∙ sym q.is ∙ same in
-    p.is ∙ ap (λ a. xs ++ a) (nothing_put xs p.rest q.rest joined) ∙ append-nil xs
-
-files_part : {X : Type 0} (x y y' m : X) → (y' ≡ x) ⊎ (y' ≡ y) → (y ≡ x) ⊎ (y ≡ m) → (y' ≡ x) ⊎ (y' ≡ m)
-files_part x y y' m (inl p) q = inl p
-files_part x y y' m (inr p) (inl q) = inl (p ∙ q)
-files_part x y y' m (inr p) (inr q) = inr (p ∙ q)
-
-files_same : {X : Type 0} (x y y' : X) → (y' ≡ x) ⊎ (y' ≡ y) → y ≡ x → y' ≡ x
-files_same x y y' (inl p) q = p
-files_same x y y' (inr p) q = p ∙ q
-
-unwritten : (x y' y : Contents) → Ordered x y' y → IsUnwritten x y → IsUnwritten x y'
-unwritten x y' y o u = record {
-  output = unwritten_part x.output y'.output y.output o.output o.output_later u.output;
-  errors = unwritten_part x.errors y'.errors y.errors o.errors o.errors_later u.errors;
-  files = files_same x.files y.files y'.files o.files u.files;
+pub IsGivenUp-same : (t : Told) (meant : Meaning) (x : Readable) → IsGivenUp t t meant x x
+IsGivenUp-same t meant x = record {
+  partly = record { part = nothing; rest = meant.1; output = refl; errors = refl; written = IsWritten-nothing t };
+  input = IsRest-same x.input;
+  files = inl refl;
 }
 
-fronts_part : (s : Started) (x y' y : Contents) → Ordered x y' y → Fronts s x y → Fronts s x y'
-fronts_part (Runs m) x y' y o f = record {
-  output = front_then y'.output y.output m.output o.output_later f.output;
-  errors = front_then y'.errors y.errors m.errors o.errors_later f.errors;
-  files = files_part x.files y.files y'.files m.files o.files f.files;
-}
-fronts_part NoProgram x y' y o u = unwritten x y' y o u
-fronts_part BadProgram x y' y o u = unwritten x y' y o u
-
-record FileTold (x y : Contents) (told' : Option Files) : Type 0 where
-  pub files : Files
-  pub told : told' ≡ Some files
-  pub either : (files ≡ x.files) ⊎ (files ≡ y.files)
-
-file_told : (x y : Contents) (told told' row : Option Files) → told ≡ Some x.files → row ≡ Some y.files → (told' ≡ told) ⊎ (told' ≡ row) → FileTold x y told'
-file_told x y told told' row before after (inl p) = record { files = x.files; told = p ∙ before; either = inl refl }
-file_told x y told told' row before after (inr p) = record { files = y.files; told = p ∙ after; either = inr refl }
-
-same_some : {X : Type 0} (a b : X) → Some a ≡ Some b → a ≡ b
-same_some a b e = cc
-
--- What stands after a part of what leads to `row` is on the way to what `row` is on the way to.
-halts_part : (s : Contents → Started) (t t' row : Told) → IsPartDone t t' row → WhereTold t row (λ x y. Fronts (s x) x y) → WhereTold t t' (λ x y. Fronts (s x) x y)
-halts_part s t t' row b halts = record {
-  holds = λ x e.
-      let w = halts.holds x e in
-      let before = all_told t.files t.input t.output t.errors x e in
-      let after = all_told row.files row.input row.output row.errors w.0 w.1 in
-      let f = file_told x w.0 t.files t'.files row.files before.files after.files b.files in
-      let output : t'.output ≡ Some (x.output ++ b.output.written) = b.output.is ∙ ap (λ a. with_text a b.output.written) before.output in
-      let errors : t'.errors ≡ Some (x.errors ++ b.errors.written) = b.errors.is ∙ ap (λ a. with_text a b.errors.written) before.errors in
-      let input : t'.input ≡ Some (drop b.input.taken x.input) = b.input.is ∙ ap (λ a. without_front a b.input.taken) before.input in
-      let y' : Contents = record { files = f.files; input = drop b.input.taken x.input; output = x.output ++ b.output.written; errors = x.errors ++ b.errors.written } in
-      let later : w.0.output ≡ (x.output ++ b.output.written) ++ b.output.missing = same_some _ _ (sym after.output ∙ b.output.then ∙ ap (λ a. with_text a b.output.missing) output) in
-      let later_errors : w.0.errors ≡ (x.errors ++ b.errors.written) ++ b.errors.missing = same_some _ _ (sym after.errors ∙ b.errors.then ∙ ap (λ a. with_text a b.errors.missing) errors) in
-      let ordered : Ordered x y' w.0 = record {
-        output = record { rest = b.output.written; is = refl };
-        output_later = record { rest = b.output.missing; is = later };
-        errors = record { rest = b.errors.written; is = refl };
-        errors_later = record { rest = b.errors.missing; is = later_errors };
-        files = f.either;
-      } in
-      (y', (λ k. whole_of (f.told k) (input k) (output k) (errors k)), fronts_part (s x) x y' w.0 ordered w.2);
-}
-
--- ---- a service that is given up later
+pub Halts-same : (a : Moment) → Halts a a.told
+Halts-same a = record { halts = where-same a.told (λ x y. IsGivenUp a.told a.told (meaning_at a x) x y) (λ x. IsGivenUp-same a.told (meaning_at a x) x) }
 
 -- first a part of the service, then it is given up
-pub halts_after : (os os1 : LibOs) (o o1 : Objects) (t t1 t2 : Told) → Serves os o t os1 o1 t1 → Halts os1 o1 t1 t2 → Halts os o t t2
-halts_after os os1 o o1 t t1 t2 serves halts = record { halts = stands_then os o t os1 o1 t1 t2 serves halts.halts }
-
--- the reply is lost
-pub halts_answered : (os : LibOs) (o o' : Objects) (t t' : Told) (call : Call) (r : Reply)
-    → pending os ≡ Some call → AsksTaken os call → Fits os o → IsSound o → Answers o t call r o' t' → Halts os o t t'
-halts_answered os o o' t t' call r asks taken fits sound a = record {
-  halts = (answer_serves os (answered os r) o o' t t' call r (answered_keeps os r) refl asks taken fits sound a).stands;
-}
-
--- the pending call fails
-pub halts_call : (os : LibOs) (o : Objects) (t t' : Told) (call : Call) → pending os ≡ Some call → AsksTaken os call → Fits os o → IsSound o → Leaves o call t t' → Halts os o t t'
-halts_call os o t t' call asks taken fits sound (Nothing same) = subst (λ (u : Told). Halts os o t u) (sym same) (halts_same os o t)
-halts_call os o t t' call asks taken fits sound (Part part) = record {
-  halts = halts_part (λ x. meaning os (world_of o x)) t t' part.whole part.part
-      (halts_answered os o part.objects t part.whole call part.reply asks taken fits sound part.answers).halts;
-}
-
--- ---- a turn
-
--- nothing was written
-pub halts_turn_same : (os : LibOs) (o : Objects) (t : Told) → HaltsTurn os o t t
-halts_turn_same os o t = record { halts = told_same t (λ x y. FrontsMachine (turn_of (base os (world_of o x))) x y) (λ x. begins_turn (base os (world_of o x))) }
-
--- the service of the turn's trap is given up
-pub halts_turn_served : (os os1 : LibOs) (o o1 o2 : Objects) (t t1 t2 : Told) (u : Upcall)
-    → IsUp os o → exit_code os ≡ None → IsSound o → world_turn o ≡ (Exception u, o1) → t1 ≡ t → EntersTurn os u os1 → Halts os1 o1 t1 t2 → HaltsTurn os o t t2
-halts_turn_served os os1 o o1 o2 t t1 t2 u is none sound turn same enters halts =
-    let fits : FitsIdle os o = subst (FitsUp os o) none is.fits in
+pub IsGivenUp-carried : (a b : Moment) (t : Told) (x y z : Readable) → Carries a b x y → IsGivenUp b.told t (meaning_at b y) y z → IsGivenUp a.told t (meaning_at a x) x z
+IsGivenUp-carried a b t x y z first next =
+    let p = next.partly in
     record {
-      halts = record {
-        holds = λ x e.
-            let last = halts.halts.holds x (ap whole same ∙ e) in
-            (last.0, last.1, subst (λ s. Fronts s x last.0) (enters.enters (world_of o x) o1 fits sound turn).1 last.2);
+      partly = record {
+        part = and_then first.written p.part;
+        rest = p.rest;
+        output = ap (λ (m : Meaning). m.1.output) first.same ∙ ap (λ w. first.written.output ++ w) p.output ∙ sym (append_assoc first.written.output p.part.output p.rest.output);
+        errors = ap (λ (m : Meaning). m.1.errors) first.same ∙ ap (λ w. first.written.errors ++ w) p.errors ∙ sym (append_assoc first.written.errors p.part.errors p.rest.errors);
+        written = IsWritten-then a.told b.told t first.written p.part first.told p.written;
       };
+      input = IsRest-then x.input y.input z.input first.input next.input;
+      files = files_in-then (meaning_at a x).0 x.files y.files z.files first.files
+          (subst (λ s. (z.files ≡ y.files) ⊎ (z.files ≡ files_in s y.files)) (sym (ap (λ (m : Meaning). m.0) first.same)) next.files);
     }
 
--- ---- a run
-
--- no turn is made yet
-pub turns_none : (os : LibOs) (o : Objects) (t : Told) → MakesTurns 0 os o t os o t
-turns_none os o t = record { means = told_same t (λ x y. base os (world_of o y) ≡ after_turns 0 (base os (world_of o x))) (λ x. refl) }
-
--- one more turn
-pub turns_then : (k : ℕ) (os os' os'' : LibOs) (o o' o'' : Objects) (t t' t'' : Told)
-    → MakesTurns k os o t os' o' t' → MakesTurn os' o' t' os'' o'' t'' → MakesTurns (k + 1) os o t os'' o'' t''
-turns_then k os os' os'' o o' o'' t t' t'' before turn = record {
-  means = told_then t t' t'' _ _ (λ x z. base os'' (world_of o'' z) ≡ after_turns (k + 1) (base os (world_of o x)))
-      (λ x y z p q. q ∙ ap turn_of p ∙ ap (λ n. after_turns n (base os (world_of o x))) (suc_add k)) before.means turn.means;
-}
-  where
-    suc_add : (n : ℕ) → suc n ≡ n + 1
-    suc_add n = omega arith
-
--- between two turns
-stays_at : (k n : ℕ) (m : Mono) (y : Contents) → k ≤ n → (now : Mono) → now ≡ after_turns k m → FrontsMachine now y y → y.files ≡ now.files → FrontsRun n m y
-stays_at k n m y within now is f files = record {
-  turns = k;
-  within = within;
-  output = subst (λ (u : Mono). IsFront y.output u.output) is f.output;
-  errors = subst (λ (u : Mono). IsFront y.errors u.errors) is f.errors;
-  files = inr (files ∙ ap (λ (u : Mono). u.files) is);
+pub Halts-served : (a b : Moment) (t : Told) → Serves a b → Halts b t → Halts a t
+Halts-served a b t serves halts = record {
+  halts = where-then a.told b.told t (Carries a b) (λ y z. IsGivenUp b.told t (meaning_at b y) y z) (λ x z. IsGivenUp a.told t (meaning_at a x) x z)
+      (λ x y z. IsGivenUp-carried a b t x y z) serves.means halts.halts;
 }
 
--- in a turn
-runs_on : (k n : ℕ) (m : Mono) (y z : Contents) → k + 1 ≤ n → (now : Mono) → now ≡ after_turns k m → y.files ≡ now.files → FrontsMachine (turn_of now) y z → FrontsRun n m z
-runs_on k n m y z left now is files f = record {
-  turns = suc k;
-  within = omega arith;
-  output = subst (λ (u : Mono). IsFront z.output (turn_of u).output) is f.output;
-  errors = subst (λ (u : Mono). IsFront z.errors (turn_of u).errors) is f.errors;
-  files = either_files f.files;
+-- ---- a call that fails
+
+-- A first part of what was to be written is told.
+record PartOf (old now : Option (List ℕ)) (whole : List ℕ) : Type 0 where
+  pub front : List ℕ
+  pub rest : List ℕ
+  pub is : whole ≡ front ++ rest
+  pub longer : IsLonger old now front
+
+same_end : (t xs ys : List ℕ) → t ++ xs ≡ t ++ ys → xs ≡ ys
+same_end [] xs ys e = e
+same_end (x ∷ t) xs ys e = same_end t xs ys (let f : t ++ xs ≡ t ++ ys = cc in f)
+
+same_some : {A : Type 0} (a b : A) → Some a ≡ Some b → a ≡ b
+same_some a b e = cc
+
+part_of : (old now whole : Option (List ℕ)) (all : List ℕ) → IsPartWritten old now whole → IsLonger old whole all → PartOf old now all
+part_of None now whole all part longer = record { front = []; rest = all; is = refl; longer = part.is }
+part_of (Some t) now whole all part longer =
+    let is : whole ≡ Some ((t ++ part.written) ++ part.missing) = part.then ∙ ap (λ o. with_text o part.missing) part.is in
+    let e : t ++ all ≡ (t ++ part.written) ++ part.missing = same_some _ _ (sym longer ∙ is) in
+    record {
+      front = part.written;
+      rest = part.missing;
+      is = same_end t all (part.written ++ part.missing) (e ∙ append_assoc t part.written part.missing);
+      longer = part.is;
+    }
+
+-- Some of the input was taken.
+record RestOf (input : List ℕ) (now : Option (List ℕ)) : Type 0 where
+  pub left : List ℕ
+  pub told : now ≡ Some left
+  pub rest : IsRest left input
+
+rest_of : (old now whole : Option (List ℕ)) (input : List ℕ) → old ≡ Some input → IsPartTaken old now whole → RestOf input now
+rest_of old now whole input told part = record {
+  left = drop part.taken input;
+  told = part.is ∙ ap (λ o. without_front o part.taken) told;
+  rest = record { taken = take part.taken input; is = sym (take-append-drop part.taken input) };
 }
-  where
-    one_less : suc k - 1 ≡ k
-    one_less = omega arith
 
-    either_files : (z.files ≡ y.files) ⊎ (z.files ≡ (turn_of now).files) → (z.files ≡ (after_turns (suc k - 1) m).files) ⊎ (z.files ≡ (after_turns (suc k) m).files)
-    either_files (inl same) = inl (same ∙ files ∙ ap (λ (u : Mono). u.files) is ∙ ap (λ j. (after_turns j m).files) (sym one_less))
-    either_files (inr new) = inr (new ∙ ap (λ (u : Mono). (turn_of u).files) is)
+-- The files are those before, or all that the row leaves.
+record FilesOf (x y : Files) (now : Option Files) : Type 0 where
+  pub files : Files
+  pub told : now ≡ Some files
+  pub either : (files ≡ x) ⊎ (files ≡ y)
 
--- the run is given up between two turns
-pub halts_run_now : (k n : ℕ) (os os' : LibOs) (o o' : Objects) (t t' : Told) → k ≤ n → MakesTurns k os o t os' o' t' → HaltsRun n os o t t'
-halts_run_now k n os os' o o' t t' within made = record {
+files_of : (old now whole : Option Files) (x y : Files) → old ≡ Some x → whole ≡ Some y → (now ≡ old) ⊎ (now ≡ whole) → FilesOf x y now
+files_of old now whole x y before after (inl p) = record { files = x; told = p ∙ before; either = inl refl }
+files_of old now whole x y before after (inr p) = record { files = y; told = p ∙ after; either = inr refl }
+
+-- Both are told.
+record BothTold (t : Told) (x : Readable) : Type 0 where
+  pub files : t.files ≡ Some x.files
+  pub input : t.input ≡ Some x.input
+
+both_of : (files : Option Files) (input : Option (List ℕ)) (x : Readable) → readable_of files input ≡ Some x → (files ≡ Some x.files) × (input ≡ Some x.input)
+both_of (Some f) (Some i) x told =
+    let same : ◌≡◌ {A = Readable} (record { files = f; input = i }) x = cc in
+    (ap (λ (c : Readable). Some c.files) same, ap (λ (c : Readable). Some c.input) same)
+both_of (Some f) None x told = absurd (cc)
+both_of None input x told = absurd (cc)
+
+both_told : (t : Told) (x : Readable) → readable t ≡ Some x → BothTold t x
+both_told t x told = let both = both_of t.files t.input x told in record { files = both.0; input = both.1 }
+
+files_part : (s : Started) (x y z : Files) → (y ≡ x) ⊎ (y ≡ files_in s x) → (z ≡ x) ⊎ (z ≡ y) → (z ≡ x) ⊎ (z ≡ files_in s x)
+files_part s x y z whole (inl p) = inl p
+files_part s x y z (inl q) (inr p) = inl (p ∙ q)
+files_part s x y z (inr q) (inr p) = inr (p ∙ q)
+
+-- What stands after a part of what leads to b is on the way to what a stands for.
+pub Halts-part : (a b : Moment) (t : Told) → WhereReadable a.told b.told (Carries a b) → IsPartDone a.told t b.told → Halts a t
+Halts-part a b t carries part = record {
   halts = record {
     holds = λ x e.
-        let a = made.means.holds x e in
-        (a.0, a.1, stays_at k n (base os (world_of o x)) a.0 within (base os' (world_of o' a.0)) a.2 (begins_same (base os' (world_of o' a.0))) refl);
+        let on = carries.holds x e in
+        let y = on.0 in
+        let first = on.2 in
+        let before = both_told a.told x e in
+        let after = both_told b.told y on.1 in
+        let output = part_of a.told.output t.output b.told.output first.written.output part.output first.told.output in
+        let errors = part_of a.told.errors t.errors b.told.errors first.written.errors part.errors first.told.errors in
+        let input = rest_of a.told.input t.input b.told.input x.input before.input part.input in
+        let files = files_of a.told.files t.files b.told.files x.files y.files before.files after.files part.files in
+        let z : Readable = record { files = files.files; input = input.left } in
+        let rest : Written = record { output = output.rest ++ (meaning_at b y).1.output; errors = errors.rest ++ (meaning_at b y).1.errors } in
+        let all_output : (meaning_at a x).1.output ≡ output.front ++ rest.output = ap (λ (m : Meaning). m.1.output) first.same ∙ ap (λ w. w ++ (meaning_at b y).1.output) output.is
+        ∙ append_assoc output.front output.rest (meaning_at b y).1.output in
+        let all_errors : (meaning_at a x).1.errors ≡ errors.front ++ rest.errors = ap (λ (m : Meaning). m.1.errors) first.same ∙ ap (λ w. w ++ (meaning_at b y).1.errors) errors.is
+        ∙ append_assoc errors.front errors.rest (meaning_at b y).1.errors in
+        let given : IsGivenUp a.told t (meaning_at a x) x z = record {
+          partly = record {
+            part = record { output = output.front; errors = errors.front };
+            rest = rest;
+            output = all_output;
+            errors = all_errors;
+            written = record { output = output.longer; errors = errors.longer };
+          };
+          input = input.rest;
+          files = files_part (meaning_at a x).0 x.files y.files z.files first.files files.either;
+        } in
+        (z, (λ k. readable_of (files.told k) (input.told k)), given);
   };
 }
 
--- a turn of the run is given up
-pub halts_run : (k n : ℕ) (os os1 : LibOs) (o o1 : Objects) (t t1 t2 : Told)
-    → k + 1 ≤ n → MakesTurns k os o t os1 o1 t1 → HaltsTurn os1 o1 t1 t2 → HaltsRun n os o t t2
-halts_run k n os os1 o o1 t t1 t2 left turns halts = record {
-  halts = told_then t t1 t2 _ _ (λ x z. FrontsRun n (base os (world_of o x)) z)
-      (λ x y z p q. runs_on k n (base os (world_of o x)) y z left (base os1 (world_of o1 y)) p refl q) turns.means halts.halts;
-}
+-- ---- the pending call
+
+-- the reply is lost
+pub Halts-answered : (a b : Moment) (call : Call) (r : Reply) → b.os ≡ answered a.os r → pending a.os ≡ Some call → Fits a.os a.objects → IsSound a.objects
+    → Answers a.objects a.told call r b.objects b.told → Halts a b.told
+Halts-answered a b call r value asks fits sound row =
+    Halts-served a b b.told (Serves-answered a b call r (subst (KeepsMeaning a.os r) (sym value) (answered_keeps a.os r)) asks fits sound row) (Halts-same b)
+
+-- the call failed
+pub Halts-failed : (a : Moment) (call : Call) (t : Told) → pending a.os ≡ Some call → Fits a.os a.objects → IsSound a.objects → Leaves a.objects call a.told t → Halts a t
+Halts-failed a call t asks fits sound (Nothing same) = subst (Halts a) (sym same) (Halts-same a)
+Halts-failed a call t asks fits sound (Part part) =
+    let b : Moment = moment (answered a.os part.reply) part.objects part.whole a.journal a.answered in
+    Halts-part a b t (Carries-answered a b call part.reply (answered_keeps a.os part.reply) asks fits sound part.answers) part.part
+
+-- ---- a start that is given up changes nothing
+
+nothing_put : (xs ys zs : List ℕ) → (xs ++ ys) ++ zs ≡ xs → xs ++ ys ≡ xs
+nothing_put xs [] zs e = append-nil xs
+nothing_put xs (y ∷ ys) zs e = absurd (let n = ap (length {A = ℕ}) e in omega (arith, n, length-append (xs ++ y ∷ ys) zs, length-append xs (y ∷ ys)))
+
+part_put : (old now : Option (List ℕ)) → IsPartWritten old now old → now ≡ old
+part_put None now part = part.is
+part_put (Some t) now part =
+    let e : t ≡ (t ++ part.written) ++ part.missing = same_some _ _ (part.then ∙ ap (λ o. with_text o part.missing) part.is) in
+    part.is ∙ ap Some (nothing_put t part.written part.missing (sym e))
+
+nothing_taken : (n m : ℕ) (xs : List ℕ) → drop m (drop n xs) ≡ xs → drop n xs ≡ xs
+nothing_taken zero m xs e = refl
+nothing_taken (suc n) m [] e = refl
+nothing_taken (suc n) m (x ∷ xs) e =
+    absurd (let long = ap (length {A = ℕ}) e in omega (arith, long, length-drop m (drop n xs), length-drop n xs))
+
+part_taken : (old now : Option (List ℕ)) → IsPartTaken old now old → now ≡ old
+part_taken None now part = part.is
+part_taken (Some t) now part =
+    let e : t ≡ drop part.missing (drop part.taken t) = same_some _ _ (part.then ∙ ap (λ o. without_front o part.missing) part.is) in
+    part.is ∙ ap Some (nothing_taken part.taken part.missing t (sym e))
+
+either_same : {A : Type 0} {x y : A} → (y ≡ x) ⊎ (y ≡ x) → y ≡ x
+either_same (inl p) = p
+either_same (inr p) = p
+
+-- a part of nothing is nothing
+told-part : (t t' : Told) → IsPartDone t t' t → t' ≡ t
+told-part t t' part =
+    let files = either_same part.files in
+    let input = part_taken t.input t'.input part.input in
+    let output = part_put t.output t'.output part.output in
+    let errors = part_put t.errors t'.errors part.errors in
+    λ i. record { files = files i; input = input i; output = output i; errors = errors i }
+
+-- the call failed
+pub start-failed : (a : Moment) (call : Call) (t : Told) → pending a.os ≡ Some call → Fits a.os a.objects → IsSound a.objects → Leaves a.objects call a.told t → ServesNoTrap a.os → t ≡ a.told
+start-failed a call t asks fits sound (Nothing same) start = same
+start-failed a call t asks fits sound (Part part) start =
+    let b : Moment = moment (answered a.os part.reply) part.objects part.whole a.journal a.answered in
+    let whole : part.whole ≡ a.told = told-start a b call part.reply (answered_keeps a.os part.reply) asks fits sound part.answers (pending-start a.os call asks start) in
+    told-part a.told t (subst (IsPartDone a.told t) whole part.part)
+
+-- the reply is lost
+pub start-answered : (a : Moment) (call : Call) (r : Reply) (o : Objects) (t : Told) → pending a.os ≡ Some call → Fits a.os a.objects → IsSound a.objects
+    → Answers a.objects a.told call r o t → ServesNoTrap a.os → t ≡ a.told
+start-answered a call r o t asks fits sound row start =
+    told-start a (moment (answered a.os r) o t a.journal a.answered) call r (answered_keeps a.os r) asks fits sound row (pending-start a.os call asks start)

@@ -7,7 +7,8 @@ use Rattle.abi_calls.specs.declared.host.Crossing.{Crossing}
 use Rattle.abi_calls.specs.World.{Told}
 use Rattle.abi_calls.specs.Failing.{Leaves}
 use Rattle.libos_state.specs.Pending.{pending}
-use Rattle.turn_engine.specs.History.{Moment, Event, Turns, Calls, Happens, Leads, turns_in, History, Broken}
+use Rattle.turn_engine.specs.Moment.{Moment}
+use Rattle.turn_engine.specs.History.{Event, Turns, Calls, Happens, Leads, turns_in, History, Broken}
 
 leads-append : (xs ys : List Event) (a b c : Moment) → Leads xs a b → Leads ys b c → Leads (xs ++ ys) a c
 unfolding Leads

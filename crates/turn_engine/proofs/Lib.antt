@@ -1,11 +1,7 @@
-pub mod Telling
-pub mod Serving
-pub mod Turns
-pub mod Boots
-pub mod Steps
-pub mod Quiet
-pub mod Starts
-pub mod Fronts
+pub mod Carrying
 pub mod Halting
-pub mod Progress
 pub mod Histories
+pub mod Progress
+pub mod Telling
+pub mod Turning
+pub mod Turns

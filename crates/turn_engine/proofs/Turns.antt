@@ -38,7 +38,7 @@ turns_kept o o' t t' call r not a = ap (λ p. p.turns) (KeepsPositions-Answers o
 
 turns_at : (os : LibOs) (c : Cont) (stage : Stage) (o o' : Objects) (t t' : Told) (r : Reply) → FitsStage os o c stage → Answers o t (asked os c stage) r o' t' → o'.positions.turns ≡ o.positions.turns
 turns_at os c Configure o o' t t' r fits a =
-    sym (ap (λ (x : Answer). x.1.objects.positions.turns) a.abi.row) ∙ turns_configured o os.settings fits.unturned
+    sym (ap (λ (x : Answer). x.1.objects.positions.turns) a.abi.row) ∙ turns_configured o os.settings fits.made
 turns_at os c _ o o' t t' r fits a = turns_kept o o' t t' _ r refl a
 
 turns_in_cont : (os : LibOs) (cont : Option Cont) (o o' : Objects) (t t' : Told) (call : Call) (r : Reply) → asked_by os cont ≡ Some call → FitsCont os o cont → Answers o t call r o' t' → o'.positions.turns ≡ o.positions.turns

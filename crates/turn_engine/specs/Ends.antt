@@ -1,22 +1,17 @@
--- How a turn of the machine ends.
-use Rattle.std.specs.Prelude.{◌≡◌}
-use Rattle.std.specs.declared.option.Option.{Option}
-use Rattle.std.specs.declared.option.Option.TheVariants.{None, Some}
+-- How a turn of the machine ends, by how the world's ends: a trap is served.
+use Rattle.std.specs.Prelude.{ℕ}
 use Rattle.abi_calls.specs.declared.threads.Turned.{Turned}
 use Rattle.abi_calls.specs.declared.threads.Turned.TheVariants as world
-use Rattle.abi_calls.specs.Objects.{Objects}
-use Rattle.abi_calls.specs.Turn.{world_turn}
 use Rattle.turn_engine.specs.declared.machine.TurnEnd.{TurnEnd}
-use Rattle.turn_engine.specs.declared.machine.TurnEnd.TheVariants.{Ran, Served}
+use Rattle.turn_engine.specs.declared.machine.TurnEnd.TheVariants.{Ran, Idle, Stuck, Served}
 
--- The end of the machine's turn, by that of the world's: a trap is served. In a world of one thread that never waits,
--- no turn is idle or stuck.
-abbrev pub end_of : Turned → Option TurnEnd
-end_of world.Ran = Some Ran
-end_of (world.Exception upcall) = Some Served
-end_of world.Idle = None
-end_of world.Stuck = None
+abbrev pub end_of : Turned → TurnEnd
+end_of world.Ran = Ran
+end_of world.Idle = Idle
+end_of world.Stuck = Stuck
+end_of (world.Exception upcall) = Served
 
--- The turn that the world makes from these objects ends so.
-pub record EndsTurn (o : Objects) (end : TurnEnd) : Type 0 where
-  pub ends : end_of (world_turn o).0 ≡ Some end
+-- How many turns were made: none where the machine is stuck.
+abbrev pub turns_of : TurnEnd → ℕ
+turns_of Stuck = 0
+turns_of _ = 1

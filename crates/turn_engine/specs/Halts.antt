@@ -1,75 +1,38 @@
--- What stands where a service, a turn or a run is given up: for want of memory, or as the outside failed.
-use Rattle.std.specs.Prelude.{◌≡◌, ◌≢◌, ◌⊎◌, ℕ, zero, suc, ◌-◌, ◌≤◌, List, ◌++◌}
+-- What stands where a service, a turn or a run is given up: for want of memory, or as the outside
+-- failed.
+use Rattle.std.specs.Prelude.{◌≡◌, ◌⊎◌, ◌≢◌}
 use Rattle.std.specs.declared.option.Option.TheVariants.{None}
-use Rattle.abi_calls.specs.Objects.{Objects}
-use Rattle.abi_calls.specs.World.{Contents, Told, WhereTold, world_of}
-use Rattle.mono_model.specs.Machine.{Mono}
+use Rattle.abi_calls.specs.World.{Told}
+use Rattle.mono_model.specs.Readable.{Readable}
 use Rattle.mono_model.specs.Turns.{turn_of}
-use Rattle.mono_model.specs.Starting.{Started, Runs, NoProgram, BadProgram}
-use Rattle.libos_state.specs.declared.state.Boot.TheVariants.{Up}
+use Rattle.libos_state.specs.declared.state.Boot.TheVariants.{Going}
 use Rattle.libos_state.specs.declared.state.LibOs.{LibOs}
-use Rattle.libos_state.specs.Records.{base}
-use Rattle.libos_state.specs.Meaning.{meaning}
+use Rattle.libos_state.specs.Laws.{IsRest, files_in}
+use Rattle.libos_state.specs.Meaning.{Meaning, leads_to}
+use Rattle.turn_engine.specs.Inside.{WhereReadable, IsPartly}
+use Rattle.turn_engine.specs.Moment.{Moment, meaning_at, machine_at}
 
--- A text is a front of another.
-pub record IsFront (front whole : List ℕ) : Type 0 where
-  pub rest : List ℕ
-  pub is : whole ≡ front ++ rest
+-- From x it came to y on the way to this: some first part was written of what it writes, some of
+-- the input was taken, and the files are those before or those that it leads to.
+pub record IsGivenUp (told told' : Told) (meant : Meaning) (x y : Readable) : Type 0 where
+  pub partly : IsPartly told told' meant.1
+  pub input : IsRest y.input x.input
+  pub files : (y.files ≡ x.files) ⊎ (y.files ≡ files_in meant.0 x.files)
 
--- From x to y the machine's output and errors were written up to some point each, and the files are those before or
--- the machine's.
-pub record FrontsMachine (m : Mono) (x y : Contents) : Type 0 where
-  pub output : IsFront y.output m.output
-  pub errors : IsFront y.errors m.errors
-  pub files : (y.files ≡ x.files) ⊎ (y.files ≡ m.files)
+-- A service is given up on the way to what the moment stood for.
+pub record Halts (a : Moment) (told' : Told) : Type 0 where
+  pub halts : WhereReadable a.told told' (λ x y. IsGivenUp a.told told' (meaning_at a x) x y)
 
--- Nothing was written from x to y.
-pub record IsUnwritten (x y : Contents) : Type 0 where
-  pub output : y.output ≡ x.output
-  pub errors : y.errors ≡ x.errors
-  pub files : y.files ≡ x.files
+-- A turn is given up on the way to what the machine's turn leads to.
+pub record HaltsTurn (a : Moment) (told' : Told) : Type 0 where
+  pub halts : WhereReadable a.told told'
+      (λ x y. IsGivenUp a.told told' (leads_to (turn_of (machine_at a x))) x y)
 
--- From x the contents came to y on the way to this: a machine, or no run at all.
-abbrev pub Fronts : Started → Contents → Contents → Type 0
-Fronts (Runs m) x y = FrontsMachine m x y
-Fronts NoProgram x y = IsUnwritten x y
-Fronts BadProgram x y = IsUnwritten x y
-
--- A service is given up on the way to what the library OS and the world stood for.
-pub record Halts (os : LibOs) (o : Objects) (told told' : Told) : Type 0 where
-  pub halts : WhereTold told told' (λ x y. Fronts (meaning os (world_of o x)) x y)
-
--- A turn is given up on the way to the machine that it makes.
-pub record HaltsTurn (os : LibOs) (o : Objects) (told told' : Told) : Type 0 where
-  pub halts : WhereTold told told' (λ x y. FrontsMachine (turn_of (base os (world_of o x))) x y)
-
--- The machine after so many turns.
-abbrev pub after_turns : ℕ → Mono → Mono
-after_turns zero m = m
-after_turns (suc k) m = turn_of (after_turns k m)
-
--- So many turns were made.
-pub record MakesTurns (k : ℕ) (os : LibOs) (o : Objects) (told : Told) (os' : LibOs) (o' : Objects) (told' : Told) : Type 0 where
-  pub means : WhereTold told told' (λ x y. base os' (world_of o' y) ≡ after_turns k (base os (world_of o x)))
-
--- The contents are on the way to the machine after some number of turns, n at most: the files are those before or after
--- the last of these turns.
-pub record FrontsRun (n : ℕ) (m : Mono) (y : Contents) : Type 0 where
-  pub turns : ℕ
-  pub within : turns ≤ n
-  pub output : IsFront y.output (after_turns turns m).output
-  pub errors : IsFront y.errors (after_turns turns m).errors
-  pub files : (y.files ≡ (after_turns (turns - 1) m).files) ⊎ (y.files ≡ (after_turns turns m).files)
-
--- A run of at most n turns is given up on the way to the machine after one of them.
-pub record HaltsRun (n : ℕ) (os : LibOs) (o : Objects) (told told' : Told) : Type 0 where
-  pub halts : WhereTold told told' (λ x y. FrontsRun n (base os (world_of o x)) y)
-
--- No trap is being served: what is in progress, if anything is, is the start of a run.
+-- What is in progress, if anything is, is a start.
 abbrev pub ServesNoTrap : LibOs → Type 0
-ServesNoTrap os = os.cont ≢ None → os.boot ≢ Up
+ServesNoTrap os = os.cont ≢ None → os.boot ≡ Going
 
--- From one moment to a later one of a service: a start changes no contents, up to its end.
-pub record StartsQuietly (os : LibOs) (told : Told) (os' : LibOs) (told' : Told) : Type 0 where
-  pub quiet : ServesNoTrap os → WhereTold told told' (λ x y. y ≡ x)
-  pub stays : ServesNoTrap os → ServesNoTrap os'
+-- From one moment to a later one of a start nothing changes of what is told.
+pub record StartsQuietly (a b : Moment) : Type 0 where
+  pub quiet : ServesNoTrap a.os → b.told ≡ a.told
+  pub starts : ServesNoTrap a.os → ServesNoTrap b.os

@@ -1,13 +1,12 @@
 -- What was done between two moments: the turns and the answered calls, in order.
-use Rattle.std.specs.Prelude.{◌≡◌, ◌⊎◌, ℕ, suc, List, [], ◌∷◌}
+use Rattle.std.specs.Prelude.{◌≡◌, ◌≢◌, ◌⊎◌, ℕ, suc, List, [], ◌∷◌}
 use Rattle.std.specs.declared.option.Option.{Option}
 use Rattle.std.specs.declared.option.Option.TheVariants.{None, Some}
 use Rattle.abi_calls.specs.declared.call.Call.{Call}
 use Rattle.abi_calls.specs.declared.host.Crossing.{Crossing}
 use Rattle.abi_calls.specs.declared.reply.Reply.{Reply}
 use Rattle.abi_calls.specs.declared.threads.Turned.{Turned}
-use Rattle.abi_calls.specs.declared.threads.Turned.TheVariants.{Exception}
-use Rattle.abi_calls.specs.Objects.{Objects}
+use Rattle.abi_calls.specs.declared.threads.Turned.TheVariants.{Exception, Stuck}
 use Rattle.abi_calls.specs.World.{Told}
 use Rattle.abi_calls.specs.Abi.{Answers, counted_up, journalled}
 use Rattle.abi_calls.specs.Failing.{Leaves}
@@ -16,19 +15,8 @@ use Rattle.libos_state.specs.declared.state.LibOs.{LibOs}
 use Rattle.libos_state.specs.Pending.{pending}
 use Rattle.libos_state.specs.Answered.{answered}
 use Rattle.libos_state.specs.Entered.{entered}
-use Rattle.libos_state.specs.Fits.{exit_code}
-
--- The library OS over a host, as both stand at one moment.
-pub record Moment : Type 0 where
-  pub os : LibOs
-  pub objects : Objects
-  pub told : Told
-  pub journal : Option (List Crossing)
-  pub answered : ℕ
-
-abbrev pub moment : LibOs → Objects → Told → Option (List Crossing) → ℕ → Moment
-moment os objects told journal answered =
-    record { os = os; objects = objects; told = told; journal = journal; answered = answered }
+use Rattle.libos_state.specs.Records.{exit_code}
+use Rattle.turn_engine.specs.Moment.{Moment}
 
 -- A turn and how it ended, or an answered call with its reply.
 pub data Event : Type 0 where
@@ -53,8 +41,9 @@ abbrev pub os_after : LibOs → Turned → LibOs
 os_after os (Exception upcall) = entered os upcall
 os_after os turned = os
 
--- With nothing in progress and process 1 alive, the host made its turn.
+-- With nothing in progress and process 1 alive, the host made its turn: it wasn't stuck.
 pub record IsNextTurn (a : Moment) (turned : Turned) (b : Moment) : Type 0 where
+  pub goes : turned ≢ Stuck
   pub settled : a.os.cont ≡ None
   pub alive : exit_code a.os ≡ None
   pub turn : world_turn a.objects ≡ (turned, b.objects)

@@ -1,3 +1,5 @@
+pub mod Inside
+pub mod Moment
 pub mod Serves
 pub mod Halts
 pub mod Errors

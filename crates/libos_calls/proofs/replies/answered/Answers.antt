@@ -14,7 +14,7 @@ use Rattle.libos_calls.proofs.replies.answered.Goals as goal
 pub returns-clause-kept : goal.returns-clause-kept
 returns-clause-kept c =
     let old = c.args.os.now in
-    let reply = c.args.reply.now in
+    let reply = c.args.reply in
     let keeps = λ (is : c.take_reply.new.os ≡ spec.answered old reply). subst (λ (os : LibOs). KeepsMeaning old reply os) (sym is) (answered_keeps old reply) in
     on_ok_weaker _ keeps c.take_reply.ensures.value
 
@@ -25,7 +25,7 @@ on_ok_from_both (Err e) f p q = tt
 pub returns-clause-nearer : goal.returns-clause-nearer
 returns-clause-nearer c =
     let old = c.args.os.now in
-    let reply = c.args.reply.now in
+    let reply = c.args.reply in
     let falls = λ (is : c.take_reply.new.os ≡ spec.answered old reply) (small : IfSome old.cont (λ k. k.stage ≡ ProgramLength → IsLengthSmall reply)) (some : 0 < calls_left old).
     subst (λ (os : LibOs). calls_left os < calls_left old) (sym is) (calls_left_falls old reply c.requires small some) in
     on_ok_from_both _ falls c.take_reply.ensures.value c.take_reply.ensures.small

@@ -1,0 +1,211 @@
+-- Worked examples: a library OS with two processes and three threads that fits its objects, and four neighbours that fit none.
+use Rattle.std.specs.Prelude.{◌≡◌, ℕ, ◌+◌, ◌==◌, true, false, cond, not, List, [], ◌∷◌, ◌++◌, map, find}
+use Rattle.std.specs.List.{list_all}
+use Rattle.std.specs.FinMap.{from_entries, empty}
+use Rattle.std.specs.Option.{option_map}
+use Rattle.std.specs.declared.option.Option.{Option}
+use Rattle.std.specs.declared.option.Option.TheVariants.{None, Some}
+use Rattle.std.proofs.Common.{refl, sym, ap, ◌∙◌, arith, eqb-true}
+use Rattle.std.proofs.lemmas.Bool.{and_parts, not-true}
+use Rattle.rv_core.specs.declared.context.Context.{Context}
+use Rattle.guest_space.specs.Space.{Space}
+use Rattle.turn_sched.specs.Lists.{contains}
+use Rattle.bas_names.specs.declared.StreamName.TheVariants as stream
+use Rattle.abi_calls.specs.declared.object.Object.TheVariants.{Process, Thread, Event, Stream}
+use Rattle.abi_calls.specs.declared.settings.Positions.{Positions}
+use Rattle.abi_calls.specs.declared.settings.Settings.{Settings}
+use Rattle.abi_calls.specs.Objects.{Object, Objects, object_at, is_thread_of}
+use Rattle.libos_state.specs.declared.notes.Description.{Description}
+use Rattle.libos_state.specs.declared.notes.DescriptorNote.{DescriptorNote}
+use Rattle.libos_state.specs.declared.notes.Kind.TheVariants.{ConIn, ConOut, ConErr}
+use Rattle.libos_state.specs.declared.notes.ProcessNote.{ProcessNote}
+use Rattle.libos_state.specs.declared.notes.ThreadNote.{ThreadNote}
+use Rattle.libos_state.specs.declared.state.Boot.TheVariants.{Up}
+use Rattle.libos_state.specs.declared.state.LibOs.{LibOs}
+use Rattle.libos_state.specs.Named.{Named, is_of, recorded, times_named}
+use Rattle.libos_state.specs.Fits.{FitsRecords, FitsObjects, FitsUp, are_distinct, is_to_name, is_code, handle_in}
+use Rattle.libos_state.specs.Records.{process_named}
+use Rattle.libos_state.proofs.Distinct.{find-absent, contains-map}
+use Rattle.libos_state.proofs.Naming.{times_named-cons, times_named-most}
+use Rattle.libos_state.proofs.Bases.{get-mapped}
+
+-- ---- objects of a table
+
+-- Some objects, each under its number.
+abbrev Table : Type 0
+Table = List (ℕ × Object)
+
+abbrev numbers : Table → List ℕ
+numbers table = map (λ e. e.0) table
+
+abbrev entry : Table → ℕ → Option Object
+entry table q = option_map (λ e. e.1) (find (λ e. e.0 == q) table)
+
+-- Names of the same numbers, which are different, name each once.
+named_once : (table : Table) (names : List Named) → map (λ n. n.0) names ≡ numbers table → are_distinct (numbers table) ≡ true → (q : ℕ) → times_named q names ≡ cond (is_to_name None (entry table q)) 1 0
+named_once [] [] same distinct q = refl
+named_once [] (n ∷ names) same distinct q = absurd (cc)
+named_once (e ∷ table) [] same distinct q = absurd (cc)
+named_once (e ∷ table) (n ∷ names) same distinct q =
+    let parts = and_parts (not (contains (numbers table) e.0)) (are_distinct (numbers table)) distinct in
+    let number : n.0 ≡ e.0 = cc in
+    let rest = named_once table names (let tail : map (λ (j : Named). j.0) names ≡ numbers table = cc in tail) parts.1 q in
+    times_named-cons q n.0 n.1 names ∙ ap (λ k. cond (k == q) 1 0 + times_named q names) number ∙ ap (λ k. cond (e.0 == q) 1 0 + k) rest
+    ∙ elim (e.0 == q) as (λ b. (e.0 == q) ≡ b → cond b 1 0 + cond (is_to_name None (entry table q)) 1 0 ≡ cond (is_to_name None (option_map (λ (j : ℕ × Object). j.1) (cond b (Some e) (find (λ j. j.0 == q) table)))) 1 0) [
+      | true ↦ λ here. ap (λ x. 1 + cond (is_to_name None (option_map (λ (j : ℕ × Object). j.1) x)) 1 0) (find-absent (λ (j : ℕ × Object). j.0 == q) table
+          (sym (contains-map (λ (j : ℕ × Object). j.0) table q) ∙ ap (contains (numbers table)) (sym (eqb-true e.0 q here)) ∙ not-true _ parts.0))
+      | false ↦ λ _. omega arith
+    ] refl
+
+-- ---- two processes, three threads, and a description that both processes have open
+
+abbrev descriptor : ℕ → ℕ → DescriptorNote
+descriptor number description = record { number = number; description = description }
+
+abbrev first_process : ProcessNote
+first_process = record { pid = 1; handle = 11; code = None; descriptors = descriptor 0 1 ∷ descriptor 1 2 ∷ descriptor 2 3 ∷ [] }
+
+abbrev second_process : ProcessNote
+second_process = record { pid = 2; handle = 12; code = None; descriptors = descriptor 1 2 ∷ [] }
+
+abbrev thread : ℕ → ℕ → ℕ → ℕ → ThreadNote
+thread tid pid handle event = record { tid = tid; pid = pid; handle = handle; event = event }
+
+abbrev console : List Description
+console =
+    record { id = 1; handle = 19; kind = ConIn; access = 1 } ∷
+    record { id = 2; handle = 20; kind = ConOut; access = 2 } ∷
+    record { id = 3; handle = 21; kind = ConErr; access = 2 } ∷ []
+
+module _ (settings : Settings) (positions : Positions) (memory : Space) (context : Context) where
+  abbrev with_records : List ProcessNote → List ThreadNote → LibOs
+  with_records processes threads = record {
+    settings = settings;
+    boot = Up;
+    next_id = 4;
+    processes = processes;
+    threads = threads;
+    descriptions = console;
+    cont = None;
+  }
+
+  abbrev two_processes : List ProcessNote
+  two_processes = first_process ∷ second_process ∷ []
+
+  abbrev three_threads : List ThreadNote
+  three_threads = thread 1 1 13 16 ∷ thread 2 2 14 17 ∷ thread 3 1 15 18 ∷ []
+
+  abbrev worked : LibOs
+  worked = with_records two_processes three_threads
+
+  abbrev table : Table
+  table =
+      (11, Process memory None) ∷ (12, Process memory None) ∷
+      (13, Thread 11 context) ∷ (14, Thread 12 context) ∷ (15, Thread 11 context) ∷
+      (16, Event false) ∷ (17, Event true) ∷ (18, Event false) ∷
+      (19, Stream stream.ConIn) ∷ (20, Stream stream.ConOut) ∷ (21, Stream stream.ConErr) ∷ []
+
+  -- Two threads are ready, and the third waits for the second process, or to be woken.
+  abbrev objects : Objects
+  objects = record {
+    live = from_entries table;
+    pipes = empty;
+    lists = record {
+      ready = 14 ∷ 13 ∷ [];
+      waiting = record { thread = 15; handles = 12 ∷ 18 ∷ []; deadline = None } ∷ [];
+      suspended = [];
+      current = None;
+    };
+    positions = positions;
+    settings = settings;
+  }
+
+  is_at : (q : ℕ) → object_at objects q ≡ entry table q
+  is_at q = get-mapped (λ (e : ℕ × Object). e.0) (λ e. e.1) table q
+
+  worked_records : FitsRecords worked
+  worked_records = record {
+    pids = refl;
+    tids = refl;
+    ids = refl;
+    given_pids = refl;
+    given_tids = refl;
+    processes = refl;
+    threads = refl;
+    described = refl;
+    access = refl;
+  }
+
+  worked_objects : FitsObjects worked objects [] None
+  worked_objects = record {
+    once = λ q. named_once table (recorded worked) refl refl q ∙ ap (λ x. cond (is_to_name None x) 1 0) (sym (is_at q));
+    kinds = λ i. list_all (λ (n : Named). is_of n.1 (is_at n.0 i)) (recorded worked);
+    homes = λ i. list_all (λ (n : ThreadNote). is_thread_of (handle_in (process_named n.pid two_processes)) (is_at n.handle i)) three_threads;
+    codes = λ i. list_all (λ (n : ProcessNote). is_code n.code (is_at n.handle i)) two_processes;
+  }
+
+  -- They fit.
+  worked_fits : FitsUp worked objects
+  worked_fits = record { records = worked_records; first = refl; objects = worked_objects; current = refl }
+
+  -- ---- what fits no objects, or not these
+
+  -- Two records have one handle: the second thread has that of the first.
+  twice : LibOs
+  twice = with_records two_processes (thread 1 1 13 16 ∷ thread 2 2 13 17 ∷ thread 3 1 15 18 ∷ [])
+
+  twice_fits_none : (o : Objects) → FitsUp twice o → ⊥
+  unfolding twice
+  twice_fits_none o fits =
+      let two : times_named 13 (recorded twice) ≡ 2 = refl in
+      omega (arith, two, times_named-most twice o [] None fits.objects 13)
+
+  -- A thread with a record is no more.
+  dead_fits_none : (o : Objects) → object_at o 15 ≡ None → FitsUp worked o → ⊥
+  dead_fits_none o dead fits =
+      let one : times_named 15 (recorded worked ++ []) ≡ 1 = refl in
+      let none : times_named 15 (recorded worked ++ []) ≡ 0 = fits.objects.once 15 ∙ ap (λ x. cond (is_to_name None x) 1 0) dead in
+      omega arith
+
+  -- An object is live that nothing names.
+  unnamed_fits_none : (o : Objects) (x : Object) → object_at o 22 ≡ Some x → FitsUp worked o → ⊥
+  unnamed_fits_none o x live fits =
+      let none : times_named 22 (recorded worked ++ []) ≡ 0 = refl in
+      let one : times_named 22 (recorded worked ++ []) ≡ 1 = fits.objects.once 22 ∙ ap (λ y. cond (is_to_name None y) 1 0) live in
+      omega arith
+
+  -- A description is open without a descriptor: the first process has closed its descriptor 2.
+  abbrev closed_process : ProcessNote
+  closed_process = record first_process { descriptors = descriptor 0 1 ∷ descriptor 1 2 ∷ [] }
+
+  undescribed : LibOs
+  undescribed = with_records (closed_process ∷ second_process ∷ []) three_threads
+
+  undescribed_fits_none : (o : Objects) → FitsUp undescribed o → ⊥
+  unfolding undescribed
+  undescribed_fits_none o fits = absurd (let e : false ≡ true = fits.records.described in cc)
+
+  -- With descriptor 1 closed in its place the description stays open, as the second process has it.
+  shared : LibOs
+  shared = with_records (record first_process { descriptors = descriptor 0 1 ∷ descriptor 2 3 ∷ [] } ∷ second_process ∷ []) three_threads
+
+  shared_records : FitsRecords shared
+  unfolding shared
+  shared_records = record {
+    pids = worked_records.pids;
+    tids = worked_records.tids;
+    ids = worked_records.ids;
+    given_pids = worked_records.given_pids;
+    given_tids = worked_records.given_tids;
+    processes = refl;
+    threads = worked_records.threads;
+    described = refl;
+    access = worked_records.access;
+  }
+
+  shared_fits : FitsUp shared objects
+  unfolding shared
+  shared_fits =
+      let named = worked_objects in
+      let same : FitsObjects shared objects [] None = record { once = named.once; kinds = named.kinds; homes = named.homes; codes = named.codes } in
+      record { records = shared_records; first = refl; objects = same; current = refl }

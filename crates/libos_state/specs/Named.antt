@@ -1,0 +1,89 @@
+-- What the library OS names of a world: each handle with the kind of object that its place asks.
+use Rattle.std.specs.Prelude.{ℕ, ◌==◌, Bool, true, false, List, [], ◌∷◌, ◌++◌, map, count_by}
+use Rattle.std.specs.declared.option.Option.{Option}
+use Rattle.std.specs.declared.option.Option.TheVariants.{Some}
+use Rattle.bas_names.specs.declared.StreamName.{StreamName}
+use Rattle.bas_names.specs.declared.StreamName.TheVariants as stream
+use Rattle.abi_calls.specs.declared.object.Object.TheVariants.{Process, Thread, Event, Stream}
+use Rattle.abi_calls.specs.Objects.{Object}
+use Rattle.libos_state.specs.declared.cont.Cont.{Cont}
+use Rattle.libos_state.specs.declared.cont.Stage.{Stage}
+use Rattle.libos_state.specs.declared.cont.Stage.TheVariants.{CloseHandles, OpenConsole, OpenProgram, ProgramLength, ReadProgram, CloseProgram, CreateProcess, AllocateRun, WriteRun, ProtectRun, AllocateStack, WriteBlock, CreateThread, CreateEvent, StartThread}
+use Rattle.libos_state.specs.declared.notes.Kind.{Kind}
+use Rattle.libos_state.specs.declared.notes.Kind.TheVariants.{ConIn, ConOut, ConErr}
+use Rattle.libos_state.specs.declared.state.LibOs.{LibOs}
+
+-- The kind of object that a place asks: a process, a thread, an event, an end of the console, a
+-- file, or anything that can be closed.
+pub data ObjectKind : Type 0 where
+  AProcess : ObjectKind
+  AThread : ObjectKind
+  AnEvent : ObjectKind
+  AConsole : Kind → ObjectKind
+  AFile : ObjectKind
+  ToClose : ObjectKind
+
+abbrev pub is_console : Kind → StreamName → Bool
+is_console ConIn stream.ConIn = true
+is_console ConOut stream.ConOut = true
+is_console ConErr stream.ConErr = true
+is_console _ _ = false
+
+-- An object is of a kind.
+abbrev pub is_of : ObjectKind → Option Object → Bool
+is_of AProcess (Some (Process memory code)) = true
+is_of AThread (Some (Thread process context)) = true
+is_of AnEvent (Some (Event set)) = true
+is_of (AConsole kind) (Some (Stream name)) = is_console kind name
+is_of AFile (Some (Stream (stream.File name))) = true
+is_of ToClose (Some (Event set)) = true
+is_of ToClose (Some (Stream name)) = true
+is_of _ _ = false
+
+-- A handle, and the kind of what it is to name.
+abbrev pub Named : Type 0
+Named = ℕ × ObjectKind
+
+-- What the records name.
+abbrev pub recorded : LibOs → List Named
+recorded os =
+    map (λ n. (n.handle, AProcess)) os.processes ++
+    (map (λ n. (n.handle, AThread)) os.threads ++
+    (map (λ n. (n.event, AnEvent)) os.threads ++
+    map (λ d. (d.handle, AConsole d.kind)) os.descriptions))
+
+-- Handles of these kinds, one after another.
+abbrev pub named_as : List ℕ → List ObjectKind → List Named
+named_as (h ∷ hs) (kind ∷ kinds) = (h, kind) ∷ named_as hs kinds
+named_as _ _ = []
+
+abbrev pub consoles : List ObjectKind
+consoles = AConsole ConIn ∷ AConsole ConOut ∷ AConsole ConErr ∷ []
+
+-- What the handles are that a stage keeps: the ends of the console, of which not all may be open
+-- yet, then the program's file or the process that is made, its thread and the thread's event.
+abbrev pub kinds_at : Stage → List ObjectKind
+kinds_at OpenConsole = consoles
+kinds_at OpenProgram = consoles
+kinds_at ProgramLength = consoles ++ AFile ∷ []
+kinds_at ReadProgram = consoles ++ AFile ∷ []
+kinds_at CloseProgram = consoles ++ AFile ∷ []
+kinds_at CreateProcess = consoles
+kinds_at AllocateRun = consoles ++ AProcess ∷ []
+kinds_at WriteRun = consoles ++ AProcess ∷ []
+kinds_at ProtectRun = consoles ++ AProcess ∷ []
+kinds_at AllocateStack = consoles ++ AProcess ∷ []
+kinds_at WriteBlock = consoles ++ AProcess ∷ []
+kinds_at CreateThread = consoles ++ AProcess ∷ []
+kinds_at CreateEvent = consoles ++ AProcess ∷ AThread ∷ []
+kinds_at StartThread = consoles ++ AProcess ∷ AThread ∷ AnEvent ∷ []
+kinds_at _ = []
+
+-- What a stage keeps, and names by it; where a process ends, what is still to be closed.
+abbrev pub kept_names : Cont → Stage → List Named
+kept_names c CloseHandles = map (λ h. (h, ToClose)) c.handles
+kept_names c stage = named_as c.handles (kinds_at stage)
+
+-- How often a number is named.
+abbrev pub times_named : ℕ → List Named → ℕ
+times_named q names = count_by (λ n. n.0 == q) names

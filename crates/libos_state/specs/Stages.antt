@@ -1,0 +1,27 @@
+-- The numbers that the format of images has for the stages.
+use Rattle.std.specs.Prelude.{ℕ}
+use Rattle.libos_state.specs.declared.cont.Stage.{Stage}
+use Rattle.libos_state.specs.declared.cont.Stage.TheVariants.{SetContext, Resume, CloseHandles, ExitProcess, ReadBuffer, WriteStream, Configure, OpenConsole, OpenProgram, ProgramLength, ReadProgram, CloseProgram, CreateProcess, AllocateRun, WriteRun, ProtectRun, AllocateStack, WriteBlock, CreateThread, CreateEvent, StartThread}
+
+abbrev pub number_of : Stage → ℕ
+number_of SetContext = 1
+number_of Resume = 2
+number_of CloseHandles = 8
+number_of ExitProcess = 9
+number_of ReadBuffer = 20
+number_of WriteStream = 22
+number_of Configure = 41
+number_of OpenConsole = 42
+number_of OpenProgram = 43
+number_of ProgramLength = 44
+number_of ReadProgram = 45
+number_of CloseProgram = 46
+number_of CreateProcess = 47
+number_of AllocateRun = 48
+number_of WriteRun = 49
+number_of ProtectRun = 50
+number_of AllocateStack = 51
+number_of WriteBlock = 52
+number_of CreateThread = 53
+number_of CreateEvent = 54
+number_of StartThread = 56

@@ -1,0 +1,179 @@
+-- A turn of the machine over a host.
+use Rattle.std.proofs.Common.{◌≡◌, ◌≢◌, ℕ, List, [], ◌%◌, ◌==◌, Bool, bit_and, if◌then◌else◌, true, false, append-nil, refl, sym, ap, subst, ◌∙◌}
+use Rattle.std.specs.FinMap.{empty}
+use Rattle.std.specs.declared.option.Option.{Option}
+use Rattle.std.specs.declared.option.Option.TheVariants.{None, Some}
+use Rattle.abi_calls.specs.declared.threads.Turned.{Turned}
+use Rattle.abi_calls.specs.declared.threads.Turned.TheVariants.{Ran, Idle, Stuck, Exception}
+use Rattle.abi_calls.specs.declared.threads.Upcall.{Upcall}
+use Rattle.abi_calls.specs.declared.host.Crossing.{Crossing}
+use Rattle.abi_calls.specs.Objects.{Objects, next_position}
+use Rattle.abi_calls.specs.World.{Told}
+use Rattle.abi_calls.specs.Sound.{IsSound}
+use Rattle.abi_calls.specs.Turn.{world_turn}
+use Rattle.abi_calls.proofs.Sounds.{IsSound-with_due_ready}
+use Rattle.abi_calls.proofs.TurnFacts.{world_turn-moves}
+use Rattle.mono_model.specs.Machine.{Mono, register}
+use Rattle.mono_model.specs.Readable.{Readable}
+use Rattle.mono_model.specs.Written.{nothing, and_then}
+use Rattle.mono_model.specs.Calls.{Served, WRITE, EXIT, EBADF, ENOSYS, error, fault_code}
+use Rattle.mono_model.specs.Turns.{is_stuck, turn_of}
+use Rattle.mono_model.specs.Starting.{Runs}
+use Rattle.libos_state.specs.declared.state.LibOs.{LibOs}
+use Rattle.libos_state.specs.declared.notes.Description.{Description}
+use Rattle.libos_state.specs.declared.state.Boot.{Boot}
+use Rattle.libos_state.specs.declared.state.Boot.TheVariants.{Up}
+use Rattle.libos_state.specs.Records.{description_behind}
+use Rattle.libos_state.specs.Entered.{entered, call_entered, write_entered, ends_process, result_of}
+use Rattle.libos_state.specs.Fits.{Fits, FitsUp, FitsBoot, FitsCont}
+use Rattle.libos_state.specs.Laws.{EntersTurn}
+use Rattle.libos_state.specs.Meaning.{Meaning, meant, meant_settled, leads_to}
+use Rattle.libos_state.specs.Turned as libos
+use Rattle.libos_state.proofs.Turning.{turns}
+use Rattle.turn_engine.specs.Inside.{WhereReadable, IsWritten}
+use Rattle.turn_engine.specs.Moment.{Moment, moment, seen_at, machine_at, meaning_at}
+use Rattle.turn_engine.specs.Serves.{Carries, Serves, IsUp, IsTurnOf, MakesTurn, StaysStuck}
+use Rattle.turn_engine.specs.Halts.{IsGivenUp, Halts, HaltsTurn}
+use Rattle.turn_engine.proofs.Telling.{IsWritten-nothing, where-same, where-weaker}
+use Rattle.turn_engine.specs.History.{History}
+use Rattle.turn_engine.proofs.Halting.{IsGivenUp-same}
+use Rattle.turn_engine.proofs.Histories.{history_none}
+
+-- What the world's turn is beside the machine's.
+turned_beside : (a : Moment) (x : Readable) (t : Turned) (o : Objects) → IsUp a.os a.objects → IsSound a.objects → world_turn a.objects ≡ (t, o) → libos.TurnsTo a.os (seen_at a x) t o
+turned_beside a x t o up sound is = subst (λ (r : Turned × Objects). libos.TurnsTo a.os (seen_at a x) r.0 r.1) is (turns a.os (seen_at a x) up.fits sound)
+
+-- the turns counted
+turns_counted : (a : Moment) (t : Turned) (o : Objects) → IsSound a.objects → t ≢ Stuck → world_turn a.objects ≡ (t, o) → o.positions.turns ≡ next_position a.objects.positions.turns
+turns_counted a Ran o sound goes is = ap (λ p. p.turns) (world_turn-moves a.objects Ran o (IsSound-with_due_ready a.objects sound) is).positions
+turns_counted a Idle o sound goes is = ap (λ p. p.turns) (world_turn-moves a.objects Idle o (IsSound-with_due_ready a.objects sound) is).positions
+turns_counted a Stuck o sound goes is = absurd (goes refl)
+turns_counted a (Exception u) o sound goes is = ap (λ p. p.turns) (world_turn-moves a.objects (Exception u) o (IsSound-with_due_ready a.objects sound) is).positions
+
+-- ---- a turn without a trap
+
+-- No files, and no input.
+pub no_files : Readable
+no_files = record { files = empty; input = [] }
+
+module _ (a : Moment) (o : Objects) (t : Told) (journal : Option (List Crossing)) (answered : ℕ) (up : IsUp a.os a.objects) (sound : IsSound a.objects) (told : t ≡ a.told) where
+  abbrev after : Moment
+  after = moment a.os o t journal answered
+
+  is_turn : (x : Readable) → (is_stuck (machine_at a x) ≡ false) → (turn_of (machine_at a x) ≡ (machine_at after x, nothing)) → IsTurnOf a after x x
+  is_turn x goes is = record {
+    goes = goes;
+    told = subst (λ u. IsWritten a.told u (turn_of (machine_at a x)).1) (sym told)
+        (subst (λ (s : Served). IsWritten a.told a.told s.1) (sym is) (IsWritten-nothing a.told));
+    same = sym (ap (λ (s : Served). s.0) is);
+  }
+
+  makes : (turned : Turned) → turned ≢ Stuck → world_turn a.objects ≡ (turned, o) → FitsUp a.os o
+      → ((x : Readable) → (is_stuck (machine_at a x) ≡ false) × (turn_of (machine_at a x) ≡ (machine_at after x, nothing))) → MakesTurn a after
+  makes turned goes is fits beside = record {
+    up = record { up = up.up; settled = up.settled; fits = fits };
+    turns = turns_counted a turned o sound goes is;
+    means = subst (λ u. WhereReadable a.told u (IsTurnOf a after)) (sym told) (where-same a.told (IsTurnOf a after) (λ x. is_turn x (beside x).0 (beside x).1));
+  }
+
+  pub MakesTurn-ran : world_turn a.objects ≡ (Ran, o) → MakesTurn a after
+  MakesTurn-ran is = makes Ran (λ e. cc) is (turned_beside a no_files Ran o up sound is).0 (λ y. let b = turned_beside a y Ran o up sound is in (b.1, b.2))
+
+  pub MakesTurn-idle : world_turn a.objects ≡ (Idle, o) → MakesTurn a after
+  MakesTurn-idle is = makes Idle (λ e. cc) is (turned_beside a no_files Idle o up sound is).0 (λ y. let b = turned_beside a y Idle o up sound is in (b.1, b.2))
+
+  -- stuck: nothing changes
+  stuck_same : journal ≡ a.journal → answered ≡ a.answered → world_turn a.objects ≡ (Stuck, o) → after ≡ a
+  stuck_same kept counted is =
+      let same : o ≡ a.objects = (turned_beside a no_files Stuck o up sound is).1 in
+      λ i. moment a.os (same i) (told i) (kept i) (counted i)
+
+  pub StaysStuck-stuck : journal ≡ a.journal → answered ≡ a.answered → world_turn a.objects ≡ (Stuck, o) → StaysStuck a after
+  StaysStuck-stuck kept counted is = record {
+    same = stuck_same kept counted is;
+    means = subst (λ u. WhereReadable a.told u (λ y z. is_stuck (machine_at a y) ≡ true)) (sym told)
+        (where-same a.told (λ y z. is_stuck (machine_at a y) ≡ true) (λ y. (turned_beside a y Stuck o up sound is).0));
+  }
+
+  pub history_stuck : journal ≡ a.journal → answered ≡ a.answered → world_turn a.objects ≡ (Stuck, o) → History 0 a after
+  history_stuck kept counted is = subst (History 0 a) (sym (stuck_same kept counted is)) (history_none a)
+
+-- ---- a trap
+
+settled_up : (os : LibOs) (o : Objects) → os.boot ≡ Up → os.cont ≡ None → Fits os o → FitsUp os o
+settled_up os o up settled fits =
+    let boot : FitsBoot os o os.boot = subst (FitsCont os o) settled fits in
+    subst (FitsBoot os o) up boot
+
+-- at the end of a service it stands for its machine, and nothing more is written
+pub meaning-settled : (a : Moment) (x : Readable) → a.os.boot ≡ Up → a.os.cont ≡ None → meaning_at a x ≡ (Runs (machine_at a x), nothing)
+meaning-settled a x up settled = ap (meant a.os (seen_at a x)) settled ∙ ap (λ b. (meant_settled a.os (seen_at a x) b, nothing)) up
+
+boot_if : (b : Bool) (x y : LibOs) (boot : Boot) → x.boot ≡ boot → y.boot ≡ boot → (if b then x else y).boot ≡ boot
+boot_if true x y boot p q = p
+boot_if false x y boot p q = q
+
+entered-boot-write : (os : LibOs) (u : Upcall) (d : Option Description) → (write_entered os u d).boot ≡ os.boot
+entered-boot-write os u None = refl
+entered-boot-write os u (Some d) =
+    boot_if (bit_and d.access 2 == 2) _ (result_of os u (error EBADF)) os.boot
+    (boot_if (register u.context 12 == 0) (result_of os u 0) _ os.boot refl refl) refl
+
+-- a library OS that begins to serve a trap is as far as before
+pub entered-boot : (os : LibOs) (u : Upcall) → (entered os u).boot ≡ os.boot
+entered-boot os u =
+    boot_if (u.cause == 8) (call_entered os u (register u.context 17)) (ends_process os u (fault_code u.cause)) os.boot
+    (boot_if (register u.context 17 == WRITE) (write_entered os u (description_behind os u.process (register u.context 10))) _ os.boot
+    (entered-boot-write os u (description_behind os u.process (register u.context 10)))
+    (boot_if (register u.context 17 == EXIT) (ends_process os u (register u.context 10 % 256)) (result_of os u (error ENOSYS)) os.boot refl refl))
+    refl
+
+same_runs : (m n : Mono) → Runs m ≡ Runs n → m ≡ n
+same_runs m n e = cc
+
+module _ (a s : Moment) (u : Upcall) (up : IsUp a.os a.objects) (sound : IsSound a.objects)
+    (is : world_turn a.objects ≡ (Exception u, s.objects)) (told : s.told ≡ a.told) (enters : EntersTurn a.os u s.os) where
+  -- the library OS that serves the trap stands for the machine's turn
+  entered_at : (x : Readable) → Fits s.os s.objects × (meaning_at s x ≡ leads_to (turn_of (machine_at a x)))
+  entered_at x = enters.enters (seen_at a x) s.objects up.up up.fits sound is
+
+  pub Fits-entered : (x : Readable) → Fits s.os s.objects
+  Fits-entered x = (entered_at x).0
+
+  turn_is : (b : Moment) (x y : Readable) → b.os.boot ≡ Up → b.os.cont ≡ None → Carries s b x y → IsTurnOf a b x y
+  turn_is b x y booted settled c =
+      let served : leads_to (turn_of (machine_at a x)) ≡ (Runs (machine_at b y), and_then c.written nothing) =
+      sym (entered_at x).1 ∙ c.same ∙ ap (λ (m : Meaning). (m.0, and_then c.written m.1)) (meaning-settled b y booted settled) in
+      let written : (turn_of (machine_at a x)).1 ≡ c.written = ap (λ (m : Meaning). m.1) served
+      ∙ (λ i. record { output = append-nil c.written.output i; errors = append-nil c.written.errors i }) in
+      record {
+        goes = (turned_beside a x (Exception u) s.objects up sound is).1;
+        told = subst (λ v. IsWritten v b.told (turn_of (machine_at a x)).1) told (subst (λ w. IsWritten s.told b.told w) (sym written) c.told);
+        same = sym (same_runs _ _ (ap (λ (m : Meaning). m.0) served));
+      }
+
+  -- the trap is served to its end
+  pub MakesTurn-served : (b : Moment) → Serves s b → b.os.cont ≡ None → s.os.boot ≡ Up → MakesTurn a b
+  MakesTurn-served b serves settled booted =
+      let boot : b.os.boot ≡ Up = serves.up booted in
+      record {
+        up = record { up = boot; settled = settled; fits = settled_up b.os b.objects boot settled serves.fits };
+        turns = serves.turns ∙ turns_counted a (Exception u) s.objects sound (λ e. cc) is;
+        means = subst (λ v. WhereReadable v b.told (IsTurnOf a b)) told
+            (where-weaker s.told b.told (Carries s b) (IsTurnOf a b) (λ x y. turn_is b x y boot settled) serves.means);
+      }
+
+  -- the service is given up
+  pub HaltsTurn-served : (t : Told) → Halts s t → HaltsTurn a t
+  HaltsTurn-served t halts = record {
+    halts = subst (λ v. WhereReadable v t (λ x y. IsGivenUp v t (leads_to (turn_of (machine_at a x))) x y)) told
+        (where-weaker s.told t (λ x y. IsGivenUp s.told t (meaning_at s x) x y) (λ x y. IsGivenUp s.told t (leads_to (turn_of (machine_at a x))) x y)
+        (λ x y. subst (λ m. IsGivenUp s.told t m x y) (entered_at x).1) halts.halts);
+  }
+
+-- nothing was done of the service
+pub HaltsTurn-same : (a : Moment) (t : Told) → t ≡ a.told → HaltsTurn a t
+HaltsTurn-same a t told = record {
+  halts = subst (λ v. WhereReadable a.told v (λ x y. IsGivenUp a.told v (leads_to (turn_of (machine_at a x))) x y)) (sym told)
+      (where-same a.told (λ x y. IsGivenUp a.told a.told (leads_to (turn_of (machine_at a x))) x y) (λ x. IsGivenUp-same a.told (leads_to (turn_of (machine_at a x))) x));
+}
