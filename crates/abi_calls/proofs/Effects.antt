@@ -18,8 +18,8 @@ use Rattle.abi_calls.specs.declared.call.Call.TheVariants.{MemoryAllocate, Memor
 use Rattle.abi_calls.specs.declared.object.Object.TheVariants.{Process, Thread, Event, Stream}
 use Rattle.abi_calls.specs.declared.reply.Reply.{Reply}
 use Rattle.abi_calls.specs.declared.reply.Reply.TheVariants.{Done, Handle, Bytes, Count, BadHandle, NotFound, Exists, Busy, NoAccess, BadAddress, NoRoom, TooBig}
-use Rattle.abi_calls.specs.declared.settings.Positions.{Positions}
-use Rattle.abi_calls.specs.declared.settings.Settings.{Settings}
+use Rattle.turn_sched.specs.declared.settings.Positions.{Positions}
+use Rattle.turn_sched.specs.declared.settings.Settings.{Settings}
 use Rattle.abi_calls.specs.Objects.{Object, Objects, object_at, running, is_thread, is_process, number_of, with_object, with_lists, without_handles}
 use Rattle.abi_calls.specs.World.{World, Answer, with_objects, with_contents, with_files, on_objects, on_contents, on_files}
 use Rattle.abi_calls.specs.Memory.{with_pages, memory_allocate_row, memory_free_row, memory_protect_row, memory_read_row, memory_write_row, unless_fault}

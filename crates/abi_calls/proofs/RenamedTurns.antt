@@ -16,7 +16,8 @@ use Rattle.abi_calls.specs.declared.threads.Turned.{Turned}
 use Rattle.abi_calls.specs.declared.threads.Turned.TheVariants.{Ran, Idle, Stuck, Exception}
 use Rattle.abi_calls.specs.Objects.{Object, Objects, object_at, running, is_read_end, is_write_end, pipe_bytes, with_object, with_lists}
 use Rattle.abi_calls.specs.Renaming.{Renaming, renamed_object, renamed_objects, renamed_turn}
-use Rattle.abi_calls.specs.Turn.{is_no_byte, is_signalled, is_signalled_object, time_of, is_past, is_due, with_due_ready, with_turn, idle_turn, pick_of, pick_word, with_pick, run_end, with_run_of, run_answer, run_in, run_thread, turn_of_pick, world_turn}
+use Rattle.turn_sched.specs.Clock.{is_past}
+use Rattle.abi_calls.specs.Turn.{is_no_byte, is_signalled, is_signalled_object, time_of, is_due, with_due_ready, with_turn, idle_turn, pick_of, pick_word, with_pick, run_end, with_run_of, run_answer, run_in, run_thread, turn_of_pick, world_turn}
 use Rattle.abi_calls.proofs.RenamedObjects.{object_at-renamed, with_object-renamed, some_object-renamed}
 
 running-renamed : (name : ℕ → ℕ) (x : Option Object) → running (option_map (renamed_object name) x) ≡ running x

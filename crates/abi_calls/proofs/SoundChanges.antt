@@ -13,8 +13,8 @@ use Rattle.turn_sched.specs.Lists.{Waiting, Lists, no_threads, is_resting, with_
 use Rattle.turn_sched.proofs.ThreadLists.{list_all-weaker, list_all-filter, list_all-map, standings-with_suspended, standings-with_resumed, standings-without_numbers}
 use Rattle.abi_calls.specs.declared.limits.TheConstants.{MOST_PROCESSES, MOST_THREADS, MOST_WAITS}
 use Rattle.abi_calls.specs.declared.object.Object.TheVariants.{Process, Thread, Event, Stream, ReadEnd, WriteEnd}
-use Rattle.abi_calls.specs.declared.settings.Positions.{Positions}
-use Rattle.abi_calls.specs.declared.settings.Settings.{Settings}
+use Rattle.turn_sched.specs.declared.settings.Positions.{Positions}
+use Rattle.turn_sched.specs.declared.settings.Settings.{Settings}
 use Rattle.abi_calls.specs.Objects.{Object, Objects, object_at, running, is_process, is_thread, is_some_thread, is_read_end, is_write_end, some_object, number_of, has_end, with_object, with_lists, without_handles}
 use Rattle.abi_calls.specs.Threads.{with_thread}
 use Rattle.abi_calls.specs.Processes.{is_acceptable}

@@ -332,9 +332,6 @@ effects w sound = let o = w.objects in record {
 pub IsSound-Abi : (w w' : World) (call : Call) (r : Reply) → IsSound w.objects → HasBytes call → Abi w call r w' → IsSound w'.objects
 IsSound-Abi w w' call r sound small abi = has-Abi w (KeepsSound w) (effects w sound) call r w' abi small abi.choice
 
-pub IsSound-Answers : (o o' : Objects) (told told' : Told) (call : Call) (r : Reply) → IsSound o → HasBytes call → Answers o told call r o' told' → IsSound o'
-IsSound-Answers o o' told told' call r sound small answers = IsSound-Abi (world_of o answers.before) (world_of o' answers.after) call r sound small answers.abi
-
 -- ---- turns
 
 -- The woken leave the waiting list and join the ready one.

@@ -11,7 +11,7 @@ use Rattle.guest_space.specs.Running.{Ran as Run, run_space}
 use Rattle.abi_calls.specs.declared.object.Object.TheVariants.{Process, Thread}
 use Rattle.abi_calls.specs.declared.threads.Turned.{Turned}
 use Rattle.abi_calls.specs.declared.threads.Turned.TheVariants.{Ran, Idle, Stuck, Exception}
-use Rattle.abi_calls.specs.declared.settings.Positions.{Positions}
+use Rattle.turn_sched.specs.declared.settings.Positions.{Positions}
 use Rattle.abi_calls.specs.Objects.{Objects, object_at, running}
 use Rattle.abi_calls.specs.Sound.{IsSound}
 use Rattle.abi_calls.specs.Turn.{world_turn, turn_of_pick, run_thread, run_in, run_answer, run_end, with_run_of, with_pick, pick_of, with_turn, with_due_ready, idle_turn}
@@ -76,15 +76,6 @@ world_turn-cases o sound = elim (with_due_ready o).lists.ready as (λ xs. (with_
 -- A thread isn't its own process.
 pub home_apart : (o : Objects) (t p : ℕ) (context : Context) (space : Space) → RunsIn o t p context space → t ≢ p
 home_apart o t p context space runs same = absurd (let e : None ≡ Some space = ap running (sym runs.thread) ∙ ap (λ q. running (object_at o q)) same ∙ runs.process in cc)
-
--- A run leaves its thread and its process as it made them.
-pub ran_runs : (o : Objects) (t p : ℕ) (run : Run) → t ≢ p → RunsIn (with_run_of o t p run) t p run.context run.space
-ran_runs o t p run apart =
-    let mid = insert o.live p (Process run.space None) in
-    record {
-      thread = get-insert-same mid t (Thread p run.context);
-      process = ap running (get-insert-other mid t (Thread p run.context) p (λ same. apart (sym same)) ∙ get-insert-same o.live p (Process run.space None));
-    }
 
 -- The positions after a turn, by how it ends.
 abbrev pub positions_after : Objects → Turned → Positions

@@ -19,12 +19,13 @@ use Rattle.bas_edge.proofs.FilesIn.{same_files, same_name, same_name-≡, get-in
 use Rattle.turn_sched.specs.Lists.{Waiting, Lists, is_resting, with_resumed, contains, is_at, no_threads, without_numbers}
 use Rattle.abi_calls.specs.declared.call.Call.TheVariants.{MemoryAllocate, MemoryFree, MemoryProtect, MemoryRead, ThreadCreate, ThreadResume, ThreadExit, EventCreate, StreamOpen, StreamRead, StreamWrite, StreamSetLength, StreamDelete, StreamRename, Share, Close, ProcessCreate, ProcessExit, ProcessStatus, Configure, Positions as AskPositions}
 use Rattle.abi_calls.specs.declared.object.Object.TheVariants.{Process, Thread, Event, Stream}
-use Rattle.abi_calls.specs.declared.settings.Positions.{Positions}
-use Rattle.abi_calls.specs.declared.settings.Settings.{Settings}
+use Rattle.turn_sched.specs.declared.settings.Positions.{Positions}
+use Rattle.turn_sched.specs.declared.settings.Settings.{Settings}
 use Rattle.abi_calls.specs.declared.reply.Reply.{Reply}
 use Rattle.abi_calls.specs.declared.reply.Reply.TheVariants.{Done, Handle, Bytes, Count, Running, Exited, Places, BadHandle, NotFound, Exists, Busy, NoAccess, BadAddress, NoRoom, TooBig}
 use Rattle.abi_calls.specs.declared.threads.Turned.TheVariants.{Idle, Stuck, Exception}
-use Rattle.abi_calls.specs.Objects.{is_process, is_thread, number_of, Objects, Live, object_at, running, with_object, with_lists, without_handles, next_position}
+use Rattle.turn_sched.specs.Clock.{next_position}
+use Rattle.abi_calls.specs.Objects.{is_process, is_thread, number_of, Objects, Live, object_at, running, with_object, with_lists, without_handles}
 use Rattle.abi_calls.specs.World.{World, Answer, with_objects, with_contents, with_files, on_objects, on_contents, on_files}
 use Rattle.abi_calls.specs.Memory.{memory_allocate_row, memory_free_row, memory_protect_row, memory_read_row, with_pages}
 use Rattle.abi_calls.specs.Threads.{with_thread, thread_create_row, thread_resume_row, thread_exit_row}

@@ -1,6 +1,6 @@
 -- The objects of a world: what each handle names, the pipes, the lists of threads, the positions
 -- and the settings.
-use Rattle.std.specs.Prelude.{◌≡◌, ℕ, ◌+◌, ◌%◌, ◌^◌, ◌≤◌, ◌==◌, Bool, true, false, ◌||◌, not, List, [], count_by, unwrap_or}
+use Rattle.std.specs.Prelude.{◌≡◌, ℕ, ◌≤◌, ◌==◌, Bool, true, false, ◌||◌, not, List, [], count_by, unwrap_or}
 use Rattle.std.specs.List.{list_any}
 use Rattle.std.specs.Ordering.{nat_cmp}
 use Rattle.std.specs.FinMap.{FinMap, get, insert, values, retain_keys}
@@ -10,8 +10,8 @@ use Rattle.guest_space.specs.Space.{Space}
 use Rattle.turn_sched.specs.Lists.{Waiting, Lists, without_numbers, mentions_number}
 use Rattle.abi_calls.specs.declared.object.Object as objects
 use Rattle.abi_calls.specs.declared.object.Object.TheVariants.{Process, Thread, ReadEnd, WriteEnd}
-use Rattle.abi_calls.specs.declared.settings.Positions.{Positions}
-use Rattle.abi_calls.specs.declared.settings.Settings.{Settings}
+use Rattle.turn_sched.specs.declared.settings.Positions.{Positions}
+use Rattle.turn_sched.specs.declared.settings.Settings.{Settings}
 
 -- What a handle names; the memory of a process is its pages.
 abbrev pub Object : Type 0
@@ -111,7 +111,3 @@ without_handles o ends = without_lone_pipes (record o {
   live = retain_keys o.live (λ k. not (ends k));
   lists = without_numbers ends o.lists;
 })
-
--- The position behind one, modulo 2^64.
-abbrev pub next_position : ℕ → ℕ
-next_position n = (n + 1) % 2 ^ 64

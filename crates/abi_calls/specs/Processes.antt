@@ -7,8 +7,8 @@ use Rattle.std.specs.declared.option.Option.TheVariants.{None, Some}
 use Rattle.guest_space.specs.Space.{Space}
 use Rattle.abi_calls.specs.declared.limits.TheConstants.{MOST_PROCESSES, MOST_SLICE, MOST_WORDS}
 use Rattle.abi_calls.specs.declared.object.Object.TheVariants.{Process, Thread}
-use Rattle.abi_calls.specs.declared.settings.Positions.{Positions}
-use Rattle.abi_calls.specs.declared.settings.Settings.{Settings}
+use Rattle.turn_sched.specs.declared.settings.Positions.{Positions}
+use Rattle.turn_sched.specs.declared.settings.Settings.{Settings}
 use Rattle.abi_calls.specs.declared.reply.Reply.{Reply}
 use Rattle.abi_calls.specs.declared.reply.Reply.TheVariants.{Done, Handle, Running, Exited, Places, BadHandle, Busy, NoRoom, TooBig}
 use Rattle.abi_calls.specs.Objects.{Object, Objects, running, number_of, is_process, is_thread_of, object_at, with_object, without_handles}

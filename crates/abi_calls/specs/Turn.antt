@@ -1,5 +1,5 @@
 -- A turn: waiting threads are woken, one ready thread is picked, and it does its instructions.
-use Rattle.std.specs.Prelude.{ℕ, ◌+◌, ◌*◌, ◌%◌, ◌^◌, Bool, true, false, ◌||◌, not, if◌then◌else◌, nat_le, nat_lt, List, [], length, is_some, slice_index, slice_get}
+use Rattle.std.specs.Prelude.{ℕ, Bool, true, false, ◌||◌, not, if◌then◌else◌, nat_lt, List, [], length, is_some, slice_get}
 use Rattle.std.specs.List.{list_any}
 use Rattle.std.specs.declared.option.Option.{Option}
 use Rattle.std.specs.declared.option.Option.TheVariants.{None, Some}
@@ -7,11 +7,12 @@ use Rattle.rv_core.specs.declared.context.Context.{Context}
 use Rattle.guest_space.specs.Space.{Space}
 use Rattle.guest_space.specs.Running.{Ran as Run, run_space}
 use Rattle.turn_sched.specs.Lists.{Waiting, with_woken, with_ready, picked_place, without_place}
+use Rattle.turn_sched.specs.Clock.{after_idle, after_pick, time_at, is_past, pick_word_at}
 use Rattle.abi_calls.specs.declared.limits.TheConstants.{PIPE_BYTES}
 use Rattle.abi_calls.specs.declared.object.Object.TheVariants.{Process, Thread, Event, ReadEnd, WriteEnd}
 use Rattle.abi_calls.specs.declared.threads.Turned.{Turned}
 use Rattle.abi_calls.specs.declared.threads.Turned.TheVariants.{Ran, Idle, Stuck, Exception}
-use Rattle.abi_calls.specs.Objects.{Object, Objects, object_at, running, some_object, is_read_end, is_write_end, pipe_bytes, with_object, with_lists, next_position}
+use Rattle.abi_calls.specs.Objects.{Object, Objects, object_at, running, some_object, is_read_end, is_write_end, pipe_bytes, with_object, with_lists}
 
 abbrev pub is_no_byte : List ℕ → Bool
 is_no_byte [] = true
@@ -35,11 +36,7 @@ is_signalled o h = is_signalled_object o (object_at o h)
 
 -- The time, in nanoseconds.
 abbrev pub time_of : Objects → ℕ
-time_of o = (o.settings.start + o.settings.step * o.positions.turns) % 2 ^ 64
-
-abbrev pub is_past : ℕ → Option ℕ → Bool
-is_past now None = false
-is_past now (Some deadline) = nat_le deadline now
+time_of o = time_at o.settings o.positions
 
 -- A waiting thread goes on where an object that it waits for is signalled, or its time has come.
 abbrev pub is_due : Objects → Waiting → Bool
@@ -50,8 +47,7 @@ abbrev pub with_due_ready : Objects → Objects
 with_due_ready o = with_lists o (with_woken (λ w. w.thread) (is_due o) o.lists)
 
 abbrev pub with_turn : Objects → Objects
-with_turn o =
-    record o { positions = record o.positions { turns = next_position o.positions.turns } }
+with_turn o = record o { positions = after_idle o.positions }
 
 -- Second: where no thread is ready, time passes if one waits for a time, and else nothing will
 -- happen.
@@ -62,7 +58,7 @@ idle_turn o =
 -- Third: the next word of the tape, 0 past its end, picks a place of the ready list, modulo how
 -- many are ready.
 abbrev pub pick_word : Objects → ℕ
-pick_word o = slice_index o.settings.picks o.positions.pick
+pick_word o = pick_word_at o.settings o.positions
 
 abbrev pub pick_of : Objects → ℕ
 pick_of o = picked_place (pick_word o) o.lists
@@ -71,10 +67,7 @@ pick_of o = picked_place (pick_word o) o.lists
 abbrev pub with_pick : Objects → ℕ → Objects
 with_pick o place = record o {
   lists = without_place o.lists place;
-  positions = record o.positions {
-    turns = next_position o.positions.turns;
-    pick = next_position o.positions.pick;
-  };
+  positions = after_pick o.positions;
 }
 
 -- Fourth: a thread did its instructions and joins the end of the ready list, or trapped and is

@@ -1,7 +1,7 @@
-use crate::settings::{Positions, Settings};
 use bas_items::Items;
 use bas_names::StreamName;
 use rv_core::Context;
+use turn_sched::{Positions, Settings};
 
 /// A call of the host's interface. Handles are numbers of at least 1; rights are 1 to read, 2 to write and
 /// 4 to run, added up; a page has 4,096 bytes.

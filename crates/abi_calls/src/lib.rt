@@ -7,7 +7,6 @@ mod laws;
 pub mod limits;
 mod object;
 mod reply;
-mod settings;
 mod threads;
 
 pub use bas_names::StreamName;
@@ -16,5 +15,5 @@ pub use host::{Crossing, Host, HostError};
 pub use laws::{rules_of_a_host, turn_keeps_names};
 pub use object::Object;
 pub use reply::Reply;
-pub use settings::{Positions, Settings};
 pub use threads::{Turned, Upcall};
+pub use turn_sched::{Positions, Settings};

@@ -1,5 +1,5 @@
-use crate::settings::Positions;
 use bas_items::Items;
+use turn_sched::Positions;
 
 /// What a host answers to a call. The last eight refuse it and leave the world as it was.
 #[derive(Clone, Debug, Drop)]

@@ -10,41 +10,26 @@ use Rattle.rv_core.specs.Encoding.{is_signed_by, is_immediate, encoded}
 use Rattle.rv_asm.specs.declared.labels.Definition.{Definition}
 use Rattle.rv_asm.specs.declared.statement.Statement.TheVariants.{LoadNumber}
 use Rattle.rv_asm.specs.Encoding.{limit, instr, low_part, high_part, is_short, two_instructions, instructions_of, fits_word, bytes_of}
-use Rattle.asm_laws.proofs.Parts.{low-near, low-far, low-under, low-over, high-near, high-far, high-last, high-over, high-first, high-under, by_half}
-
-pub low-fits : (n : ℤ) → is_signed_by (2 ^ 11) (low_part n) ≡ true
-low-fits (pos a) =
-    by_half a (λ c. ap (is_signed_by (2 ^ 11)) (low-near a c) ∙ lt-ltb (a % 4096) 2048 c)
-    (λ c. ap (is_signed_by (2 ^ 11)) (low-far a c) ∙ lt-ltb (4095 - a % 4096) 2048 (omega arith))
-low-fits (negsuc a) =
-    by_half a (λ c. ap (is_signed_by (2 ^ 11)) (low-under a c) ∙ lt-ltb (a % 4096) 2048 c)
-    (λ c. ap (is_signed_by (2 ^ 11)) (low-over a c) ∙ lt-ltb (4095 - a % 4096) 2048 (omega arith))
-
-upper-pos : (p : ℕ) → p < 2 ^ 31 → p % 4096 ≡ 0 → is_immediate (U 0x37) (pos p) ≡ true
-upper-pos p h e = rw (lt-ltb p (2 ^ 31) h) (grind (arith, nat_tests))
-
-upper-neg : (p : ℕ) → p < 2 ^ 31 → suc p % 4096 ≡ 0 → is_immediate (U 0x37) (negsuc p) ≡ true
-upper-neg p h e =
-    let whole : (2 ^ 32 - suc p) % 4096 ≡ 0 = omega arith in
-    rw (lt-ltb p (2 ^ 31) h) (grind (arith, nat_tests))
+use Rattle.rv_asm.proofs.Parts.{by_half, low-fits, upper-pos, upper-neg}
+use Rattle.asm_laws.proofs.Parts.{high-near, high-far, high-last, high-over, high-first, high-under}
 
 far-fits : (a : ℕ) → a < 2 ^ 31 → 2048 ≤ a % 4096 → (a + 4096 - a % 4096 < 2 ^ 31) ⊎ (2 ^ 31 ≤ a + 4096 - a % 4096) → is_immediate (U 0x37) (high_part (pos a)) ≡ true
-far-fits a h c (inl small) = ap (is_immediate (U 0x37)) (high-far a small c) ∙ upper-pos (a + 4096 - a % 4096) small (omega arith)
+far-fits a h c (inl small) = ap (is_immediate (U 0x37)) (high-far a small c) ∙ upper-pos 0x37 (a + 4096 - a % 4096) small (omega arith)
 far-fits a h c (inr big) = ap (is_immediate (U 0x37)) (high-last a h big c) ∙ refl
 
 under-fits : (a : ℕ) → a < 2 ^ 31 → a % 4096 < 2048 → (a < 4096) ⊎ (4096 ≤ a) → is_immediate (U 0x37) (high_part (negsuc a)) ≡ true
 under-fits a h c (inl small) = ap (is_immediate (U 0x37)) (high-first a small c) ∙ refl
-under-fits a h c (inr big) = ap (is_immediate (U 0x37)) (high-under a h big c) ∙ upper-neg (a - a % 4096 - 1) (omega arith) (omega arith)
+under-fits a h c (inr big) = ap (is_immediate (U 0x37)) (high-under a h big c) ∙ upper-neg 0x37 (a - a % 4096 - 1) (omega arith) (omega arith)
 
 pub high-fits : (n : ℤ) → is_signed_by (2 ^ 31) n ≡ true → is_immediate (U 0x37) (high_part n) ≡ true
 high-fits (pos a) h =
     let below = ltb-true a (2 ^ 31) h in
-    by_half a (λ c. ap (is_immediate (U 0x37)) (high-near a below c) ∙ upper-pos (a - a % 4096) (omega arith) (omega arith))
+    by_half a (λ c. ap (is_immediate (U 0x37)) (high-near a below c) ∙ upper-pos 0x37 (a - a % 4096) (omega arith) (omega arith))
     (λ c. far-fits a below c (cases_lt _ _))
 high-fits (negsuc a) h =
     let below = ltb-true a (2 ^ 31) h in
     by_half a (λ c. under-fits a below c (cases_lt _ _))
-    (λ c. ap (is_immediate (U 0x37)) (high-over a below c) ∙ upper-neg (a + 4095 - a % 4096) (omega arith) (omega arith))
+    (λ c. ap (is_immediate (U 0x37)) (high-over a below c) ∙ upper-neg 0x37 (a + 4095 - a % 4096) (omega arith) (omega arith))
 
 lui-fits : (rd : ℕ) (z : ℤ) → rd < 32 → is_immediate (U 0x37) z ≡ true → fits_word (instr op.Lui rd 0 0 z) ≡ true
 unfolding encoded

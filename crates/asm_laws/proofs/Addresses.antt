@@ -17,7 +17,8 @@ use Rattle.rv_asm.specs.declared.statement.Statement.TheVariants.{LoadAddress, J
 use Rattle.rv_asm.specs.Encoding.{instr, limit, distance, low_part, high_part, address_instructions, instructions_of, fits_word, fits_values}
 use Rattle.rv_asm.specs.Encoding.{bytes_of, data_of}
 use Rattle.asm_laws.specs.Code.{HoldsCode}
-use Rattle.asm_laws.proofs.Bytes.{HoldsWords, fits-accepted, within-accepted, words-accepted, final-accepted}
+use Rattle.asm_laws.proofs.Bytes.{HoldsWords, fits-accepted, words-accepted, final-accepted}
+use Rattle.rv_asm.proofs.Sizes.{within-accepted}
 use Rattle.asm_laws.proofs.Parts.{word-parts}
 use Rattle.asm_laws.proofs.Run.{final, is_zero, instruction-fetched, instructions-one, instructions-two, register-with, with_register-twice}
 

@@ -107,9 +107,6 @@ module _ (find : List ℕ → Option Definition) (at : ℕ) (s : Statement) (byt
   pub fits-accepted : fits_values find at s ≡ true
   fits-accepted = parts.0
 
-  pub within-accepted : at + statement_size at s ≤ limit
-  within-accepted = ltb-false limit (at + statement_size at s) parts.1
-
   module _ (code : data_of at s ≡ []) where
     bytes-is : flat_map word_bytes (map word_of (instructions_of find at s)) ++ [] ≡ bytes
     bytes-is = ap (λ d. flat_map word_bytes (map word_of (instructions_of find at s)) ++ d) (sym code) ∙ parts.2

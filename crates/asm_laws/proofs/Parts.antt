@@ -7,24 +7,7 @@ use Rattle.std.specs.Int.{cast_unsigned, w64}
 use Rattle.rv_core.specs.Rows.{word, extended}
 use Rattle.rv_core.specs.Encoding.{is_signed_by}
 use Rattle.rv_asm.specs.Encoding.{residue, low_part, high_part}
-
--- The low part
-
-pub low-near : (a : ℕ) → a % 4096 < 2048 → low_part (pos a) ≡ pos (a % 4096)
-unfolding low_part
-low-near a h = grind (arith, nat_tests, ints)
-
-pub low-far : (a : ℕ) → 2048 ≤ a % 4096 → low_part (pos a) ≡ negsuc (4095 - a % 4096)
-unfolding low_part
-low-far a h = grind (arith, nat_tests, ints)
-
-pub low-under : (a : ℕ) → a % 4096 < 2048 → low_part (negsuc a) ≡ negsuc (a % 4096)
-unfolding low_part
-low-under a h = grind (arith, nat_tests, ints)
-
-pub low-over : (a : ℕ) → 2048 ≤ a % 4096 → low_part (negsuc a) ≡ pos (4095 - a % 4096)
-unfolding low_part
-low-over a h = grind (arith, nat_tests, ints)
+use Rattle.rv_asm.proofs.Parts.{by_half, low-near, low-far, low-under, low-over, high-from}
 
 -- The high part
 
@@ -33,10 +16,6 @@ residue-pos p h = grind (arith, nat_tests, ints)
 
 residue-neg : (p : ℕ) → p < 2 ^ 31 → residue (2 ^ 31) (negsuc p) ≡ negsuc p
 residue-neg p h = grind (arith, nat_tests, ints)
-
-high-from : (z l y : ℤ) → low_part z ≡ l → z -ℤ l ≡ y → high_part z ≡ residue (2 ^ 31) y
-unfolding high_part
-high-from z l y e d = ap (λ x. residue (2 ^ 31) (z -ℤ x)) e ∙ ap (residue (2 ^ 31)) d
 
 pub high-near : (a : ℕ) → a < 2 ^ 31 → a % 4096 < 2048 → high_part (pos a) ≡ pos (a - a % 4096)
 high-near a h c =
@@ -99,9 +78,6 @@ extended-under a h c (inl small) =
 extended-under a h c (inr big) =
     let e = parts_sum-is (negsuc a) _ _ (high-under a h big c) (low-under a c) in
     extended-neg (parts_sum (negsuc a)) a h (omega (arith, e))
-
-pub by_half : {P : Type 0} (a : ℕ) → (a % 4096 < 2048 → P) → (2048 ≤ a % 4096 → P) → P
-by_half a near far = elim (cases_lt (a % 4096) 2048) [ inl c ↦ near c | inr c ↦ far c ]
 
 -- LUI's value and what ADDIW adds are the number, modulo 2^64.
 pub extended-parts : (n : ℤ) → is_signed_by (2 ^ 31) n ≡ true → extended (parts_sum n) ≡ cast_unsigned w64 n

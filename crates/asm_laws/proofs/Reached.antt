@@ -15,7 +15,8 @@ use Rattle.rv_asm.specs.declared.labels.Definition.{Definition}
 use Rattle.rv_asm.specs.declared.statement.Statement.TheVariants.{Branch, Jump, LoadAddress}
 use Rattle.rv_asm.specs.Encoding.{limit, instr, low_part, high_part, instructions_of, fits_word, bytes_of}
 use Rattle.asm_laws.specs.Reach.{IsWithinReach}
-use Rattle.asm_laws.proofs.Accepted.{low-fits, high-fits}
+use Rattle.rv_asm.proofs.Parts.{low-fits}
+use Rattle.asm_laws.proofs.Accepted.{high-fits}
 use Rattle.asm_laws.proofs.Addresses.{small_distance}
 
 -- Distances that an immediate holds

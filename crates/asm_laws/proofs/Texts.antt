@@ -14,21 +14,7 @@ use Rattle.rv_asm.specs.Labels.{otherwise, own_definition}
 use Rattle.rv_asm.specs.Line.{read, line_end, line_bytes, is_twice}
 use Rattle.rv_asm.specs.Program.{definition_in, places_in, outcome, gathered, in_front, definition_of, program_of, filed, assembled}
 use Rattle.rv_asm.specs.File.{file_of}
-use Rattle.rv_asm.proofs.Sizes.{line_end-bytes}
-use Rattle.asm_laws.proofs.Bytes.{within-accepted}
-
-once : (twice : Bool) (given : Result (List ℕ) AsmCause) (bytes : List ℕ) → cond twice (Err causes.Twice) given ≡ Ok bytes → given ≡ Ok bytes
-once true given bytes e = cc
-once false given bytes e = e
-
-line_end-within : (find : List ℕ → Option Definition) (number at : ℕ) (label : Option (List ℕ)) (said : Result (Option Statement) AsmCause)
-    (bytes : List ℕ) → at ≤ limit → line_bytes find number at (record { label = label; statement = said }) ≡ Ok bytes
-    → line_end at (record { label = label; statement = said }) ≤ limit
-unfolding line_bytes
-line_end-within find number at label (Ok (Some s)) bytes here e =
-    let size = within-accepted find at s bytes (once (is_twice find number label) _ bytes e) in omega (arith, size)
-line_end-within find number at label (Ok None) bytes here e = omega arith
-line_end-within find number at label (Err cause) bytes here e = cc
+use Rattle.rv_asm.proofs.Sizes.{line_end-bytes, line_end-within}
 
 joined-within : (next : ℕ) (front bytes : List ℕ) (at : ℕ) (r : Result (List ℕ) AsmError) → next ≡ at + length front
     → ((more : List ℕ) → r ≡ Ok more → next + length more ≤ limit) → in_front front r ≡ Ok bytes → at + length bytes ≤ limit
@@ -46,8 +32,8 @@ step-within : (find : List ℕ → Option Definition) (first number at : ℕ) (l
     → gathered first (o ∷ rest) ≡ Ok bytes → at + length bytes ≤ limit
 unfolding gathered
 step-within find first number at line rest bytes (Ok front) here is more e =
-    let end = line_end-within find number at line.label line.statement front here is in
-    joined-within (line_end at line) front bytes at (gathered (first + 1) rest) (line_end-bytes find number at line front (omega arith) is)
+    let end = line_end-within find number at line front here is in
+    joined-within (line_end at line) front bytes at (gathered (first + 1) rest) (line_end-bytes find number at line front is)
     (λ behind same. more behind end same) e
 step-within find first number at line rest bytes (Err cause) here is more e = cc
 
@@ -77,53 +63,3 @@ filed-parts (Err error) file e = cc
 pub assembled-parts : (text file : List ℕ) → assembled text ≡ Ok file → (bytes : List ℕ) × (program_of text ≡ Ok bytes) × (file ≡ file_of bytes)
 unfolding assembled
 assembled-parts text file e = filed-parts (program_of text) file e
-
--- Labels
-
-otherwise-within : (own later : Option Definition) (d : Definition) → ((x : Definition) → own ≡ Some x → x.address ≤ limit)
-    → ((x : Definition) → later ≡ Some x → x.address ≤ limit) → otherwise own later ≡ Some d → d.address ≤ limit
-otherwise-within (Some a) later d first second e = first d e
-otherwise-within None later d first second e = second d e
-
-named-within : (named : Bool) (number at : ℕ) (d : Definition) → at ≤ limit
-    → cond named (Some (let own : Definition = record { line = number; address = at } in own)) None ≡ Some d → d.address ≤ limit
-named-within true number at d here e =
-    let own : Definition = record { line = number; address = at } in
-    let same : own ≡ d = cc in
-    let place : at ≡ d.address = ap (λ (x : Definition). x.address) same in
-    omega (arith, place, here)
-named-within false number at d here e = cc
-
-own-within : (number at : ℕ) (label : Option (List ℕ)) (name : List ℕ) (d : Definition) → at ≤ limit → own_definition number at label name ≡ Some d → d.address ≤ limit
-own-within number at (Some label) name d here e = named-within (bytes_eq label name) number at d here e
-own-within number at None name d here e = cc
-
-accepted-before : (front : List ℕ) (r : Result (List ℕ) AsmError) (bytes : List ℕ) → in_front front r ≡ Ok bytes → (more : List ℕ) × (r ≡ Ok more)
-accepted-before front (Ok more) bytes e = (more, refl)
-accepted-before front (Err error) bytes e = cc
-
-labels-step : (find : List ℕ → Option Definition) (first number at : ℕ) (line : Line) (rest : List (Result (List ℕ) AsmCause)) (bytes : List ℕ)
-    (o : Result (List ℕ) AsmCause) (later : Option Definition) (d : Definition) (name : List ℕ) → at ≤ limit → line_bytes find number at line ≡ o
-    → ((more : List ℕ) (x : Definition) → line_end at line ≤ limit → gathered (first + 1) rest ≡ Ok more → later ≡ Some x → x.address ≤ limit)
-    → gathered first (o ∷ rest) ≡ Ok bytes → otherwise (own_definition number at line.label name) later ≡ Some d → d.address ≤ limit
-unfolding gathered
-labels-step find first number at line rest bytes (Ok front) later d name here is more e found =
-    let end = line_end-within find number at line.label line.statement front here is in
-    let behind = accepted-before front (gathered (first + 1) rest) bytes e in
-    otherwise-within (own_definition number at line.label name) later d (λ x own. own-within number at line.label name x here own)
-    (λ x own. more behind.0 x end behind.1 own) found
-labels-step find first number at line rest bytes (Err cause) later d name here is more e found = cc
-
-labels-within : (find : List ℕ → Option Definition) (texts : List (List ℕ)) (first number at : ℕ) (bytes name : List ℕ) (d : Definition) → at ≤ limit
-    → gathered first (map (outcome find) (places_in number at texts)) ≡ Ok bytes → definition_in number at texts name ≡ Some d → d.address ≤ limit
-unfolding gathered places_in definition_in
-labels-within find [] first number at bytes name d here e found = cc
-labels-within find (text ∷ texts) first number at bytes name d here e found =
-    labels-step find first number at (read text) (map (outcome find) (places_in (number + 1) (line_end at (read text)) texts)) bytes
-    (line_bytes find number at (read text)) (definition_in (number + 1) (line_end at (read text)) texts name) d name here refl
-    (λ more x end same own. labels-within find texts (first + 1) (number + 1) (line_end at (read text)) more name x end same own) e found
-
--- The labels of an accepted text lie at the limit at most.
-pub definition_of-within : (text bytes name : List ℕ) (d : Definition) → program_of text ≡ Ok bytes → definition_of text name ≡ Some d → d.address ≤ limit
-unfolding program_of
-definition_of-within text bytes name d e found = labels-within (definition_of text) (lines text) 1 1 base bytes name d (omega arith) e found

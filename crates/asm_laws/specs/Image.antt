@@ -11,10 +11,15 @@ page_count size = (base + size - 1) / 4096 - 15
 abbrev pub rest : ℕ → ℕ
 rest size = 4096 * (16 + page_count size) - (base + size)
 
--- One run of these pages with all rights: zeros up to the base, the bytes, and zeros. The entry is the first byte.
+-- One run of these pages with all rights: zeros up to the base, the bytes, and zeros. The entry is
+-- the first byte.
 abbrev pub image_of : List ℕ → Program
 image_of bytes = record {
   entry = base;
-  runs = record { page = 16; rights = 7; bytes = replicate 120 0 ++ bytes ++ replicate (rest (length bytes)) 0 } ∷ [];
+  runs = record {
+    page = 16;
+    rights = 7;
+    bytes = replicate 120 0 ++ bytes ++ replicate (rest (length bytes)) 0;
+  } ∷ [];
   end = 4096 * (16 + page_count (length bytes));
 }

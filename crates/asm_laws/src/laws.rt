@@ -51,12 +51,14 @@ pub fn la_leaves_its_address()
 /// do, and memory holds its bytes at the program counter: it comes to the label and leaves the address behind it in
 /// `rd`, every other register and the memory as they were. `call NAME` leaves that address in ra.
 pub fn jumps_come_to_labels()
-    ensures jal { (find : List ℕ → Option Definition) (cx : Context) (m : Memory) (rd : ℕ) (label : List ℕ) (d : Definition) (bytes : List ℕ)
+    ensures jal { (find : List ℕ → Option Definition) (cx : Context) (m : Memory) (rd : ℕ) (label : List ℕ)
+        (d : Definition) (bytes : List ℕ)
         → cx.pc % 4 ≡ 0 → find label ≡ Some d → d.address ≤ limit → d.address % 4 ≡ 0
         → bytes_of find cx.pc (Jump rd label) ≡ Ok bytes → HoldsCode m cx.pc bytes
         → instructions (length bytes / 4) cx m
         ≡ record { context = at (with_register cx rd (next cx)) d.address; memory = m; trap = None } }
-    ensures call { (find : List ℕ → Option Definition) (cx : Context) (m : Memory) (operands : Fields) (n : ℤ) (d : Definition) (bytes : List ℕ)
+    ensures call { (find : List ℕ → Option Definition) (cx : Context) (m : Memory) (operands : Fields) (n : ℤ)
+        (d : Definition) (bytes : List ℕ)
         → cx.pc % 4 ≡ 0 → find operands.label ≡ Some d → d.address ≤ limit → d.address % 4 ≡ 0
         → bytes_of find cx.pc (pseudo_by Call operands n) ≡ Ok bytes → HoldsCode m cx.pc bytes
         → instructions (length bytes / 4) cx m

@@ -15,7 +15,8 @@ magnitude base digits =
 abbrev pub number_of : List ℕ → Option ℤ
 number_of text =
     if starts_with nat_eq text (48 ∷ 120 ∷ []) then option_map pos (magnitude 16 (drop 2 text)) else
-    (if starts_with nat_eq text (45 ∷ []) then option_map (λ n. pos 0 -ℤ pos n) (magnitude 10 (drop 1 text))
+    (if starts_with nat_eq text (45 ∷ [])
+    then option_map (λ n. pos 0 -ℤ pos n) (magnitude 10 (drop 1 text))
     else option_map pos (magnitude 10 text))
 
 -- A text that begins with a digit or `-` is of the kind number.

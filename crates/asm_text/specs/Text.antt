@@ -70,13 +70,15 @@ parts quoting (c ∷ cs) =
     if is_mark (44 ∷ []) quoting c then [] ∷ parts Outside cs
     else onto_first c (parts (quoting_behind quoting c) cs)
 
--- The bytes of a quoted text, from behind its first quote on. The text has to end with its last quote.
+-- The bytes of a quoted text, from behind its first quote on. The text has to end with its last
+-- quote.
 abbrev pub unquoted : List ℕ → Option (List ℕ)
 unquoted [] = None
 unquoted (c ∷ []) = if c == 34 then Some [] else None
 unquoted (c ∷ d ∷ cs) =
     if c == 34 then None else
-    (if c == 92 then option_and_then (λ byte. option_map (λ bytes. byte ∷ bytes) (unquoted cs)) (escape_of d)
+    (if c == 92
+    then option_and_then (λ byte. option_map (λ bytes. byte ∷ bytes) (unquoted cs)) (escape_of d)
     else option_map (λ bytes. c ∷ bytes) (unquoted (d ∷ cs)))
 
 -- The bytes of an operand that is one quoted text.
@@ -120,6 +122,7 @@ is_name (c ∷ cs) = begins_name c && list_all continues_name cs
 
 -- Operands
 
--- What stands between commas outside quotes, without the blanks at its ends. Without a text there is none.
+-- What stands between commas outside quotes, without the blanks at its ends. Without a text there
+-- is none.
 abbrev pub operands : List ℕ → List (List ℕ)
 operands text = if length text == 0 then [] else map trim (parts Outside text)

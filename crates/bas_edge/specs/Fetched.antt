@@ -6,7 +6,8 @@ use Rattle.bas_edge.specs.declared.fetched.Fetched.TheVariants.{Bytes, Absent, L
 -- The whole file, unless there is none, or it is longer than the limit.
 abbrev pub fetched_of : Option (List ℕ) → ℕ → Fetched
 fetched_of None limit = Absent
-fetched_of (Some bytes) limit = if nat_lt limit (length bytes) then Large (length bytes) else Bytes bytes
+fetched_of (Some bytes) limit =
+    if nat_lt limit (length bytes) then Large (length bytes) else Bytes bytes
 
 -- Bytes that were read are within the limit, and a length that is told is past it.
 abbrev pub IsWithinLimit : ℕ → Fetched → Type 0

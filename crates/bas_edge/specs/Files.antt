@@ -42,10 +42,12 @@ TakesBytes files name bytes = 0 < length bytes → HasFile files name
 abbrev pub HasRange : Files → List ℕ → ℕ → ℕ → Type 0
 HasRange files name at count = IsSomeAnd (file_of files name) (λ bytes. at + count ≤ length bytes)
 
--- The text with these bytes from `at` on, a gap past the old end filled with zeros. No bytes change nothing (POSIX `pwrite`).
+-- The text with these bytes from `at` on, a gap past the old end filled with zeros. No bytes change
+-- nothing (POSIX `pwrite`).
 abbrev pub overwritten : List ℕ → ℕ → List ℕ → List ℕ
 overwritten old at bytes =
-    if length bytes == 0 then old else (take at old ++ replicate (at - length old) 0 ++ bytes ++ drop (at + length bytes) old)
+    if length bytes == 0 then old
+    else (take at old ++ replicate (at - length old) 0 ++ bytes ++ drop (at + length bytes) old)
 
 -- The text cut to this length, or filled up to it with zeros (POSIX `ftruncate`).
 abbrev pub resized : List ℕ → ℕ → List ℕ
@@ -55,10 +57,12 @@ resized old size = take size old ++ replicate (size - length old) 0
 abbrev pub with_file : List ℕ → List ℕ → Files → Files
 with_file name bytes files = insert files name bytes
 
--- The files with these bytes written into the file from `at` on. No bytes change no file, and make none.
+-- The files with these bytes written into the file from `at` on. No bytes change no file, and make
+-- none.
 abbrev pub with_bytes_at : List ℕ → ℕ → List ℕ → Files → Files
 with_bytes_at name at bytes files =
-    if length bytes == 0 then files else insert files name (overwritten (file_bytes files name) at bytes)
+    if length bytes == 0 then files
+    else insert files name (overwritten (file_bytes files name) at bytes)
 
 -- The files with these bytes behind those of the file, which is made where it isn't there.
 abbrev pub with_bytes_behind : List ℕ → List ℕ → Files → Files
@@ -72,7 +76,8 @@ with_length name size files = insert files name (resized (file_bytes files name)
 abbrev pub without_file : List ℕ → Files → Files
 without_file name files = remove files name
 
--- The files with the first name's file under the second name, in place of one that had it (POSIX `rename`).
+-- The files with the first name's file under the second name, in place of one that had it (POSIX
+-- `rename`).
 abbrev pub with_renamed : List ℕ → List ℕ → Files → Files
 with_renamed from to files = insert (remove files from) to (file_bytes files from)
 

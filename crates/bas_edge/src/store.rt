@@ -25,7 +25,8 @@ pub trait Store {
     /// Fills the buffer whole with the file's bytes from `at` on. What it holds after an `Err` is left open.
     fn read_at(&mut self, name: &[u8], at: u64, buffer: &mut [u8]) -> Result<(), EdgeError>
         requires { ForSome (files self.old) (λ told. HasRange told name.now at (length buffer.old)) }
-        ensures read { OnOk result (ForSome (files self.old) (λ told. buffer.new ≡ take (length buffer.old) (drop at (file_bytes told name.now)))) }
+        ensures read { OnOk result (ForSome (files self.old) (λ told. buffer.new
+            ≡ take (length buffer.old) (drop at (file_bytes told name.now)))) }
         ensures same { files self.new ≡ files self.old }
         ensures cause { HasCause EdgeError.Failed (fault_count self.old) (fault_count self.new) result }
         ensures unfaulted { OnOk result (fault_count self.new ≡ fault_count self.old) }

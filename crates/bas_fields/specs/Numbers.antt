@@ -10,8 +10,9 @@ HasNoLeadingZero [] = ⊥
 HasNoLeadingZero (digit ∷ []) = Unit {0}
 HasNoLeadingZero (digit ∷ next ∷ rest) = 0 < digit
 
--- The text spells the number in the base: by digits below the base, the highest first, without a leading zero.
--- A digit is written as `0` to `9`, and from 10 on as a lower-case letter from `a` on.
+-- The text spells the number in the base: by digits below the base, the highest first, without a
+-- leading zero. A digit is written as `0` to `9`, and from 10 on as a lower-case letter from `a`
+-- on.
 pub record Spells (base : ℕ) (text : List ℕ) (number : ℕ) : Type 0 where
   pub places : List ℕ
   pub below : AllBelowBase base places

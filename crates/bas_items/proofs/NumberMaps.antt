@@ -30,17 +30,8 @@ module _ {X : Type 0} where
   pub get-insert-other : (m : FinMap nat_cmp X) (k : ℕ) (v : X) (q : ℕ) → q ≢ k → get (insert m k v) q ≡ get m q
   get-insert-other m k v q other = get-insert m k v q ∙ cond-false _ _ _ (ne_eqb q k other)
 
-  pub get-remove-same : (m : FinMap nat_cmp X) (k : ℕ) → get (remove m k) k ≡ None
-  get-remove-same m k = get-remove m k k ∙ cond-true _ _ _ (eq-eqb k k refl)
-
-  pub get-remove-other : (m : FinMap nat_cmp X) (k q : ℕ) → q ≢ k → get (remove m k) q ≡ get m q
-  get-remove-other m k q other = get-remove m k q ∙ cond-false _ _ _ (ne_eqb q k other)
-
   pub same_numbers : (m n : FinMap nat_cmp X) → ((q : ℕ) → get m q ≡ get n q) → m ≡ n
   same_numbers m n same = same_map nat_cmp_total nat_cmp-IsAntisymmetric m n same
-
-  pub empty-none : (m : FinMap nat_cmp X) → ((q : ℕ) → get m q ≡ None) → m ≡ empty
-  empty-none m none = same_numbers m empty (λ q. none q ∙ sym (get-empty q))
 
   over : (b : Bool) (x y z : Option X) → cond b x (cond b y z) ≡ cond b x z
   over true x y z = refl
@@ -55,10 +46,6 @@ module _ {X : Type 0} where
   insert-remove m k v =
       same_numbers _ _ (λ q. get-insert _ k v q ∙ ap (cond (q == k) (Some v)) (get-remove m k q) ∙ over (q == k) _ _ _ ∙ sym (get-insert m k v q))
 
-  pub remove-insert : (m : FinMap nat_cmp X) (k : ℕ) (v : X) → remove (insert m k v) k ≡ remove m k
-  remove-insert m k v =
-      same_numbers _ _ (λ q. get-remove _ k q ∙ ap (cond (q == k) None) (get-insert m k v q) ∙ over (q == k) _ _ _ ∙ sym (get-remove m k q))
-
   -- a look-up at the key itself, at a test that is kept
   at_key : (m : FinMap nat_cmp X) (k q : ℕ) (x : Option X) → get m k ≡ x → (b : Bool) → (q == k) ≡ b → cond b x (get m q) ≡ get m q
   at_key m k q x there true same = sym there ∙ ap (get m) (sym (eqb-true q k same))
@@ -67,23 +54,6 @@ module _ {X : Type 0} where
   -- changes that change nothing
   pub insert-present : (m : FinMap nat_cmp X) (k : ℕ) (v : X) → get m k ≡ Some v → insert m k v ≡ m
   insert-present m k v there = same_numbers _ m (λ q. get-insert m k v q ∙ at_key m k q (Some v) there (q == k) refl)
-
-  pub remove-absent : (m : FinMap nat_cmp X) (k : ℕ) → get m k ≡ None → remove m k ≡ m
-  remove-absent m k absent = same_numbers _ m (λ q. get-remove m k q ∙ at_key m k q None absent (q == k) refl)
-
-  pub remove-insert-new : (m : FinMap nat_cmp X) (k : ℕ) (v : X) → get m k ≡ None → remove (insert m k v) k ≡ m
-  remove-insert-new m k v absent = remove-insert m k v ∙ remove-absent m k absent
-
-  swapped : (a b : Bool) (x y z : Option X) → (a ≡ true → b ≡ true → ⊥) → cond a x (cond b y z) ≡ cond b y (cond a x z)
-  swapped true true x y z apart = absurd (apart refl refl)
-  swapped true false x y z apart = refl
-  swapped false b x y z apart = refl
-
-  -- changes at two keys, in either order
-  pub insert-insert-other : (m : FinMap nat_cmp X) (j k : ℕ) (v w : X) → j ≢ k → insert (insert m j v) k w ≡ insert (insert m k w) j v
-  insert-insert-other m j k v w apart = same_numbers _ _ (λ q. get-insert _ k w q ∙ ap (cond (q == k) (Some w)) (get-insert m j v q)
-      ∙ swapped (q == k) (q == j) _ _ _ (λ at_k at_j. apart (sym (eqb-true q j at_j) ∙ eqb-true q k at_k))
-      ∙ sym (get-insert _ j v q ∙ ap (cond (q == j) (Some v)) (get-insert m k w q)))
 
   turned : (b : Bool) (x y : Option X) → cond (not b) x y ≡ cond b y x
   turned true x y = refl

@@ -1,5 +1,5 @@
--- Names, and lists of rules that change them. A name is a text of 1 to 80 bytes. It passes through layers of
--- rules from the top down, one list in each.
+-- Names, and lists of rules that change them. A name is a text of 1 to 80 bytes. It passes through
+-- layers of rules from the top down, one list in each.
 use Rattle.std.specs.Prelude.{◌≡◌, ℕ, ◌+◌, ◌==◌, nat_eq, nat_lt, if◌then◌else◌, List, [], ◌∷◌, ◌++◌, length, drop}
 use Rattle.std.specs.List.{starts_with, AllByRecursion}
 use Rattle.std.specs.Option.{option_map}
@@ -28,12 +28,13 @@ pub record IsReached (rules : List Rule) (name : List ℕ) (rule : Rule) : Type 
   pub place : rules ≡ before ++ rule ∷ after
   pub passed_over : NoneMatches name before
 
--- What one list makes of a name: the first rule that matches counts. Its `to` takes the place of its `from`,
--- or the name is denied where it has no `to`. Where no rule matches, the name stays.
+-- What one list makes of a name: the first rule that matches counts. Its `to` takes the place of
+-- its `from`, or the name is denied where it has no `to`. Where no rule matches, the name stays.
 pub data Passes (rules : List Rule) (name : List ℕ) : Option (List ℕ) → Type 0 where
   replaced : (rule : Rule) (to rest : List ℕ) → IsReached rules name rule → name ≡ rule.from ++ rest
       → rule.to ≡ Some to → Passes rules name (Some (to ++ rest))
-  denied : (rule : Rule) → IsReached rules name rule → Matches name rule → rule.to ≡ None → Passes rules name None
+  denied : (rule : Rule) → IsReached rules name rule → Matches name rule → rule.to ≡ None
+      → Passes rules name None
   kept : NoneMatches name rules → Passes rules name (Some name)
 
 -- One list, as a function
@@ -59,7 +60,8 @@ pub data Passed : Type 0 where
 abbrev pub judged : ℕ → Option (List ℕ) → Passed
 judged number None = Denied number
 judged number (Some name) =
-    if nat_lt 80 (length name) then TooLong number else (if length name == 0 then Empty number else Named name)
+    if nat_lt 80 (length name) then TooLong number
+    else (if length name == 0 then Empty number else Named name)
 
 -- What comes of a name that the lists above have let through goes on through the lists below.
 abbrev pub continued : Passed → (List ℕ → Passed) → Passed
@@ -71,7 +73,8 @@ continued (Empty number) below = Empty number
 -- The lists from the one of that number on.
 unfoldable pub sub_from : List (List Rule) → ℕ → List ℕ → Passed
 sub_from [] number name = Named name
-sub_from (rules ∷ lists) number name = continued (judged number (passed rules name)) (λ new. sub_from lists (number + 1) new)
+sub_from (rules ∷ lists) number name =
+    continued (judged number (passed rules name)) (λ new. sub_from lists (number + 1) new)
 
 -- All lists, the top one first.
 abbrev pub sub : List (List Rule) → List ℕ → Passed

@@ -2,7 +2,7 @@
 #![tactic(auto)]
 
 use bas_edge::EdgeError;
-use bascule_top::{Outcome, bascule};
+use bascule_top::{Outcome, bascule, tell};
 use host_monitor::Monitor;
 use host_objects::Counting;
 use std::alloc::AllocError;
@@ -11,15 +11,9 @@ use std::io::ErrorKind;
 use std::process::ExitCode;
 use std::rt::Env;
 
-#[cfg(test)]
-mod assembling;
-#[cfg(test)]
-mod counted;
 mod current;
 mod files;
 mod folder;
-#[cfg(test)]
-mod runs;
 mod streams;
 #[cfg(test)]
 mod tests;
@@ -37,7 +31,8 @@ fn words<R: Env + AllocGlobal>(rt: &R) -> Result<Vec<String>, AllocError> {
     }
 }
 
-/// Does what the words say, over the streams and the files of the system.
+/// Does what the words say, over the streams and the files of the system. The notes go to standard error, as the
+/// console's errors of a run do; they come behind them, and neither waits in a buffer.
 fn run(rt: &HostRuntime) -> Result<Outcome, EdgeError> {
     let alloc = rt.alloc();
     let words = words(rt)?;
@@ -48,14 +43,20 @@ fn run(rt: &HostRuntime) -> Result<Outcome, EdgeError> {
     let numbers = Counting::new(alloc);
     let mut host = Monitor::new(alloc, input, output, errors, store, numbers, false)?;
     let mut shelf = CurrentFolder::new(rt);
-    Ok(bascule(alloc, words.as_slice(), &mut host, &mut shelf))
+    let mut notes = Writing::new(rt.stderr());
+    Ok(bascule(alloc, words.as_slice(), &mut host, &mut shelf, &mut notes))
+}
+
+/// Tells an outcome that comes before there is a host.
+fn told(rt: &HostRuntime, outcome: Outcome) -> Outcome {
+    tell(rt.alloc(), outcome, &mut Writing::new(rt.stderr()))
 }
 
 fn main(rt: HostRuntime) -> ExitCode {
     let outcome = match run(&rt) {
         Ok(outcome) => outcome,
-        Err(EdgeError::Failed) => Outcome::HostFault,
-        Err(EdgeError::Memory) => Outcome::OutOfMemory,
+        Err(EdgeError::Failed) => told(&rt, Outcome::HostFault),
+        Err(EdgeError::Memory) => told(&rt, Outcome::OutOfMemory),
     };
     ExitCode::from(outcome.code())
 }

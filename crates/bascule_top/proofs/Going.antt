@@ -1,10 +1,10 @@
 -- A run, one turn after another.
-use Rattle.std.proofs.Common.{◌≡◌, ◌≢◌, ◌⊎◌, inl, inr, ℕ, zero, suc, ◌+◌, ◌-◌, ◌%◌, ◌^◌, ◌<◌, ◌≤◌, ◌++◌, List, true, false, append-nil, refl, sym, ◌∙◌, ap, subst, arith}
+use Rattle.std.proofs.Common.{◌≡◌, ◌≢◌, ◌⊎◌, inl, inr, ℕ, suc, ◌+◌, ◌-◌, ◌%◌, ◌^◌, ◌<◌, ◌≤◌, List, true, append-nil, refl, sym, ◌∙◌, ap, subst, arith}
 use Rattle.std.specs.declared.option.Option.{Option}
 use Rattle.std.specs.declared.option.Option.TheVariants.{None, Some}
 use Rattle.abi_calls.specs.declared.host.Crossing.{Crossing}
 use Rattle.abi_calls.specs.declared.threads.Turned.TheVariants as world
-use Rattle.abi_calls.specs.Objects.{Objects, next_position}
+use Rattle.turn_sched.specs.Clock.{next_position}
 use Rattle.abi_calls.specs.World.{Told}
 use Rattle.abi_calls.specs.Turn.{world_turn}
 use Rattle.mono_model.specs.Machine as mono

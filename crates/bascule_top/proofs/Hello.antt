@@ -1,9 +1,11 @@
 -- The run of /bin/hi, worked out.
-use Rattle.std.proofs.Common.{nat_lt, ◌≡◌, ℕ, suc, ◌+◌, ◌*◌, ◌%◌, ◌^◌, ◌<◌, true, false, if◌then◌else◌, List, [], ◌∷◌, ◌++◌, length, get_or, slice_index, slice_get, refl, ◌∙◌, ap, arith}
+use Rattle.std.proofs.Common.{nat_lt, ◌≡◌, ℕ, suc, ◌+◌, ◌-◌, ◌*◌, ◌%◌, ◌^◌, ◌<◌, true, false, cond, List, [], ◌∷◌, length, get_or, refl, sym, subst, ◌∙◌, ap, arith, inl, inr}
 use Rattle.std.specs.Option.{option_or}
 use Rattle.std.specs.List.{All, list_all}
-use Rattle.std.proofs.lemmas.Bool.{and_parts, ltb-true}
-use Rattle.std.proofs.lemmas.List.Elements.{All-nil, All-cons}
+use Rattle.std.proofs.lemmas.Bool.{and_from, and_parts, cases_lt, cond-true, cond_both, le-leb, lt-ltb, ltb-true}
+use Rattle.std.proofs.lemmas.List.{get_or_past}
+use Rattle.std.proofs.lemmas.List.Elements.{All-nil, All-cons, All-get_or, All-from_get_or}
+use Rattle.std.proofs.lemmas.List.FromFn.{get_or-map-range_with_len}
 use Rattle.std.specs.Ordering.{nat_cmp}
 use Rattle.std.specs.FinMap.{empty, get, insert}
 use Rattle.std.specs.declared.option.Option.{Option}
@@ -19,20 +21,26 @@ use Rattle.guest_space.specs.Running.{Ran, run_space, ran_from}
 use Rattle.guest_space.proofs.Cells.{with_memory_same}
 use Rattle.bas_edge.specs.Files.{file_of}
 use Rattle.bas_names.specs.declared.StreamName.TheVariants.{ConOut, ConErr}
-use Rattle.turn_sched.specs.Lists.{Lists}
 use Rattle.bas_items.proofs.NumberMaps.{get-insert-same, get-insert-other}
-use Rattle.std.specs.declared.result.Result.TheVariants.{Ok, Err}
-use Rattle.mono_model.specs.declared.ProgramRefusal.TheVariants.{Later}
+use Rattle.std.specs.declared.result.Result.TheVariants.{Ok}
+use Rattle.elf_loader.specs.declared.header.ProgramHeader.{ProgramHeader}
+use Rattle.elf_loader.specs.declared.runs.Layout.{Layout}
+use Rattle.elf_loader.specs.Fields.{e_phnum, number_at, program_header}
+use Rattle.elf_loader.specs.Segments.{any_below, union_below, max_below, covers, meets, segment_byte, touches, segment_rights, is_touched, page_rights, end_page, byte_below, byte_of}
+use Rattle.elf_loader.specs.Refusal.{file_refusal, is_misplaced, leaves_file, meets_earlier, lone_refusal, header_refusal, header_refusals, pages, program_refusal, refusal}
+use Rattle.elf_loader.specs.Image.{bytes_at, layout_of, page_bytes}
+use Rattle.elf_loader.proofs.ImageLaws.{loaded-accepted, program_of-made}
+use Rattle.elf_loader.proofs.MemoryBytes.{byte_below-more, byte_below-uncovered, length-bytes_at}
+use Rattle.guest_space.specs.Regions.{merged}
 use Rattle.mono_model.specs.Readable.{Readable}
 use Rattle.mono_model.specs.Written.{nothing}
 use Rattle.mono_model.specs.Machine.{Mono, Process, Thread, Description, process_at, thread_at, with_process, with_thread, with_registers, exit_code, code_in, exited}
 use Rattle.mono_model.specs.Calls.{Caller, Served, silently, served, finished, ended, description_of, described_in, described_by, writable, write_to, write_unless, memory_in}
-use Rattle.mono_model.specs.Program.{headers, is_plain, plain_program}
 use Rattle.mono_model.specs.Starting.{argument_block, Runs, blank, begun, begun_from, started_if, boot, console_descriptors, console_descriptions}
 use Rattle.mono_model.specs.Turns.{Ending, Exited, ends_as, behind, with_pick, with_memory_in, with_run_of, after_run, run_thread, turn_of, run_of}
 use Rattle.mono_model.proofs.RunLaws.{run_of-exited, run_of-turn}
 use Rattle.bascule_top.specs.Commands.{TURNS, start_settings, start_job}
-use Rattle.bascule_top.specs.Hello.{hello_name, hello_file, hello_text, SaysHello}
+use Rattle.bascule_top.specs.Hello.{hello, hello_name, hello_file, hello_text, SaysHello}
 use Rattle.bascule_top.proofs.Pages.{program_cell, begins_with, program_there, begins_in_space}
 
 -- ---- instructions
@@ -257,7 +265,7 @@ module _ (x : Readable) (s : Space) (space : IsSpace s) (holds : HoldsHello (mem
       ∙ ap (λ (t : Served). behind t.1 (run_of 999998 t.0)) second_turn
       ∙ ap (behind nothing) (run_of-exited 999998 has_exited 0 has_code))
 
-  run_says_hello : boot start_settings x (start_job hello_name) ≡ Runs begins → SaysHello x
+  run_says_hello : boot start_settings x (start_job hello) ≡ Runs begins → SaysHello x
   run_says_hello booted = record {
     machine = begins;
     booted = booted;
@@ -271,20 +279,71 @@ module _ (x : Readable) (s : Space) (space : IsSpace s) (holds : HoldsHello (mem
 
 -- ---- the start
 
-hello_plain : is_plain hello_file ≡ true
-unfolding hello_file headers
-hello_plain = refl
+-- what computes on a file that is written out
+unfoldable computed : Unit {0}
+unfolding hello_file number_at program_header any_below union_below max_below meets segment_rights touches is_touched page_rights end_page file_refusal is_misplaced leaves_file meets_earlier lone_refusal header_refusal header_refusals pages program_refusal merged layout_of
+computed = tt
 
-hello_length : length hello_file ≡ 159
-unfolding hello_file
-hello_length = refl
+hello_taken : refusal hello_file ≡ None
+unfolding computed
+hello_taken = refl
+
+-- one run of one page
+abbrev hello_layout : Layout
+hello_layout = record { entry = 0x10078; runs = record { page = 16; count = 1; rights = 7 } ∷ []; end = 69632 }
+
+hello_laid_out : layout_of hello_file ≡ hello_layout
+unfolding computed
+hello_laid_out = refl
+
+one_header : e_phnum hello_file ≡ 1
+unfolding computed
+one_header = refl
+
+abbrev segment : ProgramHeader
+segment = record { p_type = 1; p_flags = 7; p_offset = 120; p_vaddr = 65656; p_filesz = 39; p_memsz = 39 }
+
+segment_is : program_header hello_file 0 ≡ segment
+unfolding computed
+segment_is = refl
+
+-- the byte at an address: of the segment, or 0
+hello_byte : (address : ℕ) → byte_of hello_file address ≡ cond (covers segment address) (segment_byte hello_file segment address) 0
+hello_byte address =
+    ap (byte_below hello_file address) one_header
+    ∙ byte_below-more hello_file address 0
+    ∙ ap (λ (h : ProgramHeader). cond (covers h address) (segment_byte hello_file h address) (byte_below hello_file address 0)) segment_is
+    ∙ ap (λ n. cond (covers segment address) (segment_byte hello_file segment address) n) (byte_below-uncovered hello_file address 0 (λ j below. absurd (omega arith)))
+
+covered : (k : ℕ) → k < 39 → covers segment (65656 + k) ≡ true
+unfolding covers
+covered k h = and_from _ _ (le-leb 65656 (65656 + k) (omega arith)) (lt-ltb (65656 + k) 65695 (omega arith))
+
+in_segment : (k : ℕ) → k < 39 → segment_byte hello_file segment (65656 + k) ≡ get_or hello_file (120 + k) 0
+unfolding segment_byte
+in_segment k h =
+    let place : 65656 + k - 65656 ≡ k = omega arith in
+    ap (λ n. cond (nat_lt n 39) (get_or hello_file (120 + n) 0) 0) place ∙ cond-true _ _ _ (lt-ltb k 39 h)
+
+abbrev hello_bytes : List ℕ
+hello_bytes = page_bytes hello_file 16 1
+
+hello_bytes_at : (k : ℕ) → k < 39 → get_or hello_bytes (120 + k) 0 ≡ get_or hello_file (120 + k) 0
+unfolding bytes_at
+hello_bytes_at k h =
+    get_or-map-range_with_len (byte_of hello_file) 65536 4096 (120 + k) (65656 + k) 0 (omega arith) (omega arith)
+    ∙ hello_byte (65656 + k) ∙ cond-true _ _ _ (covered k h) ∙ in_segment k h
+
+hello_whole : length hello_bytes ≡ 4096
+hello_whole = length-bytes_at hello_file 65536 4096
 
 abbrev hello_space : Space
-hello_space = begins_with hello_file (hello_name ∷ []) (omega (arith, hello_length)) (omega (arith, hello_length))
+hello_space = begins_with hello_bytes (hello_name ∷ []) hello_whole
 
 hello_holds : HoldsHello (memory_of hello_space)
 hello_holds = record {
-  there = λ k h. program_there hello_file (hello_name ∷ []) (omega (arith, hello_length)) (omega (arith, hello_length)) (omega arith) k (omega (arith, hello_length));
+  there = λ k h. program_there hello_bytes (hello_name ∷ []) hello_whole (omega arith) (120 + k) (omega arith)
+      ∙ ap program_cell (hello_bytes_at k h);
 }
 
 all_small : (xs : List ℕ) → list_all (λ byte. nat_lt byte 256) xs ≡ true → All (λ byte. byte < 256) xs
@@ -300,14 +359,36 @@ hello_small = all_small hello_file refl
 block_small : All (λ byte. byte < 256) (argument_block (hello_name ∷ []))
 block_small = all_small (argument_block (hello_name ∷ [])) refl
 
-hello_in_space : IsSpace hello_space
-hello_in_space = begins_in_space hello_file (hello_name ∷ []) (omega (arith, hello_length)) (omega (arith, hello_length)) hello_small block_small
+in_file : (k : ℕ) → get_or hello_file k 0 < 256
+in_file k =
+    elim (cases_lt k (length hello_file)) [
+      | inl within ↦ All-get_or (λ byte. byte < 256) hello_file k 0 within hello_small
+      | inr past ↦ let e = get_or_past hello_file k 0 past in omega arith
+    ]
 
-hello_booted : (x : Readable) → file_of x.files hello_name ≡ Some hello_file → boot start_settings x (start_job hello_name) ≡ Runs (begins x hello_space hello_in_space hello_holds)
+small_byte : (address : ℕ) → byte_of hello_file address < 256
+unfolding segment_byte
+small_byte address =
+    subst (λ n. n < 256) (sym (hello_byte address))
+    (cond_both (covers segment address) (segment_byte hello_file segment address) 0 (λ n. n < 256)
+    (λ _. cond_both (nat_lt (address - 65656) 39) (get_or hello_file (120 + (address - 65656)) 0) 0 (λ n. n < 256) (λ _. in_file (120 + (address - 65656))) (λ _. omega arith))
+    (λ _. omega arith))
+
+hello_bytes_small : All (λ byte. byte < 256) hello_bytes
+unfolding bytes_at
+hello_bytes_small =
+    All-from_get_or (λ byte. byte < 256) hello_bytes 0
+    (λ k within. subst (λ n. n < 256) (sym (get_or-map-range_with_len (byte_of hello_file) 65536 4096 k (65536 + k) 0 (let whole = hello_whole in omega arith) refl)) (small_byte (65536 + k)))
+
+hello_in_space : IsSpace hello_space
+hello_in_space = begins_in_space hello_bytes (hello_name ∷ []) hello_whole hello_bytes_small block_small
+
+hello_booted : (x : Readable) → file_of x.files hello_name ≡ Some hello_file → boot start_settings x (start_job hello) ≡ Runs (begins x hello_space hello_in_space hello_holds)
 hello_booted x there =
     let m : Mono = blank start_settings (record { turns = 0; pick = 0; random = 0 }) x in
     ap (λ (file : Option (List ℕ)). started_if m (hello_name ∷ []) file) there
-    ∙ ap (λ b. begun_from m (hello_name ∷ []) (if b then Ok (plain_program hello_file) else Err Later)) hello_plain
+    ∙ ap (begun_from m (hello_name ∷ [])) (loaded-accepted hello_file hello_taken)
+    ∙ ap (λ program. begun_from m (hello_name ∷ []) (Ok program)) (program_of-made hello_file hello_layout (sym hello_laid_out))
 
 -- the program's run
 pub says_hello : (x : Readable) → file_of x.files hello_name ≡ Some hello_file → SaysHello x

@@ -1,5 +1,5 @@
-pub mod Fetching
 pub mod Going
 pub mod Hello
 pub mod Pages
 pub mod Saying
+pub mod Refusing

@@ -1,8 +1,5 @@
 -- The memory that a program of one page begins with.
-use Rattle.std.proofs.Common.{◌≡◌, ℕ, ◌+◌, ◌-◌, ◌*◌, ◌/◌, ◌<◌, ◌≤◌, List, [], ◌∷◌, ◌++◌, length, drop, replicate, get_or, cond, slice_index, refl, ◌∙◌, ap, arith}
-use Rattle.std.proofs.lemmas.List.{length-replicate, get_or_append_left, get_or-append_right, get_or-drop}
-use Rattle.std.proofs.Common.{length-drop}
-use Rattle.std.proofs.lemmas.List.Elements.{All-append, All-replicate, All-drop}
+use Rattle.std.proofs.Common.{◌≡◌, ℕ, ◌+◌, ◌/◌, ◌<◌, ◌≤◌, List, [], ◌∷◌, length, get_or, cond, slice_index, refl, ◌∙◌, ap, arith}
 use Rattle.std.specs.List.{All}
 use Rattle.std.specs.Option.{option_map}
 use Rattle.std.specs.Ordering.{nat_cmp}
@@ -18,46 +15,45 @@ use Rattle.guest_space.proofs.Cells.{SameRights-with_bytes, memory_of-place, get
 use Rattle.guest_space.proofs.Bytes.{with_bytes_before, with_bytes_within}
 use Rattle.guest_space.proofs.Spaces.{HasBytes-memory_of, HasBytes-with_bytes, IsSpace-empty, IsSpace-with_run, IsSpace-protected, IsSpace-with_memory}
 use Rattle.elf_loader.specs.declared.Run.{Run}
-use Rattle.mono_model.specs.Program.{page_bytes, page_count, plain_run}
-use Rattle.mono_model.specs.Starting.{STACK_PAGE, STACK_PAGES, stack_pointer, argument_block, pages_in, loaded, stacked, with_stack}
-use Rattle.mono_model.proofs.Sizes.{length-page_bytes, pages_in_plain}
+use Rattle.elf_loader.specs.Image.{page_count}
+use Rattle.mono_model.specs.Starting.{STACK_PAGE, STACK_PAGES, stack_pointer, argument_block, loaded, stacked, with_stack}
 
 -- A byte that can be read, written and run.
 abbrev pub program_cell : ℕ → Option Cell
 program_cell byte = Some (record { byte = byte; rights = 7 })
 
-module _ (file : List ℕ) (args : List (List ℕ)) (long : 124 ≤ length file) (short : length file ≤ 4096) where
+module _ (bytes : List ℕ) (args : List (List ℕ)) (whole : length bytes ≡ 4096) where
   abbrev run : Run
-  run = plain_run file
+  run = record { page = 16; rights = 7; bytes = bytes }
 
   abbrev made : Space
-  made = with_run (empty {R = nat_cmp}) 16 (pages_in run) 3
+  made = with_run (empty {R = nat_cmp}) 16 (page_count run) 3
 
   abbrev written : Memory
-  written = with_bytes (memory_of made) 65536 (page_bytes file)
+  written = with_bytes (memory_of made) 65536 bytes
 
   abbrev filled : Space
   filled = with_memory made written
 
   abbrev program : Space
-  program = protected filled 16 (pages_in run) 7
+  program = protected filled 16 (page_count run) 7
 
   -- What the program begins with: its page, and the stack with its arguments.
   abbrev pub begins_with : Space
   begins_with = stacked (loaded empty (run ∷ [])) args
 
-  one_page : pages_in run ≡ 1
-  one_page = pages_in_plain file (omega arith) ∙ (let e : (length file + 4095) / 4096 ≡ 1 = omega arith in e)
+  one_page : page_count run ≡ 1
+  one_page = ap (λ n. n / 4096) whole
 
   get_made : get {R = nat_cmp} made 16 ≡ Some (blank 3)
-  get_made = get-with_run empty 16 (pages_in run) 3 16 ∙ ap (λ n. cond (in_run 16 n 16) (Some (blank 3)) (get {X = Frame} {R = nat_cmp} empty 16)) one_page
+  get_made = get-with_run empty 16 (page_count run) 3 16 ∙ ap (λ n. cond (in_run 16 n 16) (Some (blank 3)) (get {X = Frame} {R = nat_cmp} empty 16)) one_page
 
   get_filled : get {R = nat_cmp} filled 16 ≡ Some (record { rights = 3; bytes = bytes_from written 65536 4096 })
   get_filled = get-with_memory made written 16 ∙ ap (option_map (frame_of_memory written 16)) get_made
 
   get_program : get {R = nat_cmp} program 16 ≡ Some (record { rights = 7; bytes = bytes_from written 65536 4096 })
   get_program =
-      get-protected filled 16 (pages_in run) 7 16
+      get-protected filled 16 (page_count run) 7 16
       ∙ ap (λ n. option_map (frame_in_run 16 n 7 16) (get {R = nat_cmp} filled 16)) one_page
       ∙ ap (option_map (frame_in_run 16 1 7 16)) get_filled
 
@@ -70,26 +66,13 @@ module _ (file : List ℕ) (args : List (List ℕ)) (long : 124 ≤ length file)
   cell_stacked : (k : ℕ) → k < 4096 → memory_of (with_stack program) (65536 + k) ≡ program_cell (get_or (bytes_from written 65536 4096) k 0)
   cell_stacked k h = memory_of-place (with_stack program) 16 k h ∙ ap (λ (f : Option Frame). cell_in f k) get_stacked
 
-  byte_of_page : (k : ℕ) → 120 + k < length file → get_or (page_bytes file) (120 + k) 0 ≡ get_or file (120 + k) 0
-  byte_of_page k h =
-      let pad = replicate (page_count file * 4096 - length file) 0 in
-      let place : 120 + k - 120 ≡ k = omega arith in
-      let within : k < length (drop 120 file) = omega (arith, length-drop 120 file) in
-      get_or-append_right (replicate 120 0) (drop 120 file ++ pad) 120 (120 + k) 0 (length-replicate {A = ℕ} 120 0) (omega arith)
-      ∙ ap (λ i. get_or (drop 120 file ++ pad) i 0) place
-      ∙ get_or_append_left (drop 120 file) pad 0 k within
-      ∙ get_or-drop 120 file k 0
-
-  byte_written : (k : ℕ) → 120 + k < length file → byte_or_zero (written (65536 + (120 + k))) ≡ get_or file (120 + k) 0
+  byte_written : (k : ℕ) → k < 4096 → byte_or_zero (written (65536 + k)) ≡ get_or bytes k 0
   byte_written k h =
-      let size : length (page_bytes file) ≡ page_count file * 4096 = length-page_bytes file (omega arith) in
-      let within : 120 + k < length (page_bytes file) = omega arith in
-      ap byte_or_zero (with_bytes_within (memory_of made) 65536 (page_bytes file) (120 + k) within ∙ ap (λ (c : Option Cell). cell_with c (get_or (page_bytes file) (120 + k) 0)) (cell_made (120 + k) (omega arith)))
-      ∙ byte_of_page k h
+      ap byte_or_zero (with_bytes_within (memory_of made) 65536 bytes k (omega arith) ∙ ap (λ (c : Option Cell). cell_with c (get_or bytes k 0)) (cell_made k h))
 
-  cell_there : (k : ℕ) → 120 + k < length file → memory_of (with_stack program) (65536 + (120 + k)) ≡ program_cell (get_or file (120 + k) 0)
+  cell_there : (k : ℕ) → k < 4096 → memory_of (with_stack program) (65536 + k) ≡ program_cell (get_or bytes k 0)
   cell_there k h =
-      cell_stacked (120 + k) (omega arith) ∙ ap program_cell (get_or-bytes_from written 65536 4096 (120 + k) (omega arith) ∙ byte_written k h)
+      cell_stacked k h ∙ ap program_cell (get_or-bytes_from written 65536 4096 k h ∙ byte_written k h)
 
   memory_with_block : memory_of begins_with ≡ with_bytes (memory_of (with_stack program)) (stack_pointer args) (argument_block args)
   memory_with_block =
@@ -97,20 +80,16 @@ module _ (file : List ℕ) (args : List (List ℕ)) (long : 124 ≤ length file)
       (SameRights-with_bytes (memory_of (with_stack program)) (stack_pointer args) (argument_block args))
 
   -- the program's bytes are there, below the argument block
-  pub program_there : 69632 ≤ stack_pointer args → (k : ℕ) → 120 + k < length file → memory_of begins_with (65536 + (120 + k)) ≡ program_cell (get_or file (120 + k) 0)
+  pub program_there : 69632 ≤ stack_pointer args → (k : ℕ) → k < 4096 → memory_of begins_with (65536 + k) ≡ program_cell (get_or bytes k 0)
   program_there below k h =
-      ap (λ (m : Memory). m (65536 + (120 + k))) memory_with_block
-      ∙ with_bytes_before (memory_of (with_stack program)) (stack_pointer args) (argument_block args) (65536 + (120 + k)) (omega arith)
+      ap (λ (m : Memory). m (65536 + k)) memory_with_block
+      ∙ with_bytes_before (memory_of (with_stack program)) (stack_pointer args) (argument_block args) (65536 + k) (omega arith)
       ∙ cell_there k h
 
-  -- each page is one that a process may have, where the file's bytes and those of the argument block are bytes
-  pub begins_in_space : All (λ byte. byte < 256) file → All (λ byte. byte < 256) (argument_block args) → IsSpace begins_with
+  -- each page is one that a process may have, where the program's bytes and those of the argument block are bytes
+  pub begins_in_space : All (λ byte. byte < 256) bytes → All (λ byte. byte < 256) (argument_block args) → IsSpace begins_with
   begins_in_space small block =
-      let is_byte : ℕ → Type 0 = λ byte. byte < 256 in
-      let pad = replicate (page_count file * 4096 - length file) 0 in
-      let zeros : (n : ℕ) → All (λ byte. byte < 256) (replicate n 0) = λ n. All-replicate (λ byte. byte < 256) n 0 (omega arith) in
-      let pages : All (λ byte. byte < 256) (page_bytes file) = All-append is_byte (replicate 120 0) (drop 120 file ++ pad) (zeros 120) (All-append is_byte (drop 120 file) pad (All-drop is_byte 120 file small) (zeros (page_count file * 4096 - length file))) in
-      let first : IsSpace made = IsSpace-with_run empty 16 (pages_in run) 3 (ap (is_run 16) one_page) (omega arith) IsSpace-empty in
-      let whole : IsSpace program = IsSpace-protected filled 16 (pages_in run) 7 (omega arith) (IsSpace-with_memory made written (HasBytes-with_bytes (memory_of made) 65536 (page_bytes file) pages (HasBytes-memory_of made first)) first) in
-      let stack : IsSpace (with_stack program) = IsSpace-with_run program STACK_PAGE STACK_PAGES 3 refl (omega arith) whole in
+      let first : IsSpace made = IsSpace-with_run empty 16 (page_count run) 3 (ap (is_run 16) one_page) (omega arith) IsSpace-empty in
+      let filled_whole : IsSpace program = IsSpace-protected filled 16 (page_count run) 7 (omega arith) (IsSpace-with_memory made written (HasBytes-with_bytes (memory_of made) 65536 bytes small (HasBytes-memory_of made first)) first) in
+      let stack : IsSpace (with_stack program) = IsSpace-with_run program STACK_PAGE STACK_PAGES 3 refl (omega arith) filled_whole in
       IsSpace-with_memory (with_stack program) _ (HasBytes-with_bytes (memory_of (with_stack program)) (stack_pointer args) (argument_block args) block (HasBytes-memory_of (with_stack program) stack)) stack

@@ -1,6 +1,7 @@
 -- What the end of a start, and of its run, says of the outcome.
-use Rattle.std.proofs.Common.{◌≡◌, ◌≢◌, ◌⊎◌, ℕ, zero, suc, ◌+◌, ◌%◌, ◌^◌, ◌≤◌, List, [], ◌∷◌, true, length, nat_le, arith, refl, sym, ◌∙◌, ap, subst}
+use Rattle.std.proofs.Common.{◌≡◌, ℕ, suc, ◌+◌, ◌%◌, ◌^◌, ◌≤◌, List, true, length, nat_le, arith, refl, sym, ◌∙◌, ap, subst}
 use Rattle.std.proofs.lemmas.Bool.{and_parts, leb-true}
+use Rattle.std.specs.List.{list_all}
 use Rattle.std.specs.declared.option.Option.{Option}
 use Rattle.std.specs.declared.option.Option.TheVariants.{None, Some}
 use Rattle.abi_calls.specs.declared.host.Crossing.{Crossing}
@@ -8,51 +9,51 @@ use Rattle.abi_calls.specs.Objects.{Objects}
 use Rattle.abi_calls.specs.World.{Told}
 use Rattle.abi_calls.specs.Fresh.{IsFreshWorld}
 use Rattle.abi_calls.specs.Sound.{IsSound}
-use Rattle.mono_model.specs.declared.ProgramRefusal.{ProgramRefusal}
+use Rattle.elf_loader.specs.declared.ElfError.{ElfError}
 use Rattle.mono_model.specs.Machine.{Mono}
 use Rattle.mono_model.specs.Readable.{Readable}
-use Rattle.mono_model.specs.Written.{nothing}
-use Rattle.mono_model.specs.Turns.{End, Ending, run_of}
+use Rattle.mono_model.specs.Turns.{run_of}
 use Rattle.mono_model.specs.Starting.{Started, Runs}
 use Rattle.mono_model.specs.Starting as starting
 use Rattle.libos_state.specs.declared.state.LibOs.{LibOs}
 use Rattle.libos_state.specs.declared.state.Boot.{Boot}
 use Rattle.libos_state.specs.declared.state.Boot.TheVariants as boots
-use Rattle.libos_state.specs.Records.{exit_code}
 use Rattle.libos_state.specs.Meaning.{Meaning, meant, meant_settled}
-use Rattle.libos_state.specs.Fits.{Fits, FitsBoot, FitsCont, FitsNone, FitsUp}
+use Rattle.libos_state.specs.Fits.{Fits, FitsBoot, FitsCont, FitsNone}
 use Rattle.libos_state.proofs.Booting.{CanBoot, boot_fits}
 use Rattle.turn_engine.specs.Inside.{readable, WhereReadable, IsWritten}
 use Rattle.turn_engine.specs.Moment.{Moment, moment, seen_at, machine_at, meaning_at}
-use Rattle.turn_engine.specs.Serves.{Carries, Serves, IsUp}
+use Rattle.turn_engine.specs.Serves.{Serves, IsUp}
 use Rattle.turn_engine.specs.Halts.{ServesNoTrap, StartsQuietly}
 use Rattle.turn_engine.specs.History.{History, Broken}
 use Rattle.turn_engine.proofs.Histories.{history_none, history_then, broken_here, broken_then}
-use Rattle.bascule_top.specs.declared.outcome.Outcome.{Outcome}
-use Rattle.bascule_top.specs.declared.outcome.Outcome.TheVariants as outcome
+use Rattle.bas_outcomes.specs.declared.outcome.Outcome.{Outcome}
+use Rattle.bas_outcomes.specs.declared.outcome.Outcome.TheVariants as outcome
 use Rattle.bascule_top.specs.declared.run.RunEnd.{RunEnd}
 use Rattle.bascule_top.specs.declared.run.RunEnd.TheVariants as run
-use Rattle.bascule_top.specs.Commands.{TURNS, is_name, start_settings}
-use Rattle.bascule_top.specs.Runs.{end_of, EndsIn, EndsRun, StopsAt, IsGivenUpAfter, BreaksRun}
-use Rattle.bascule_top.specs.Outcomes.{outcome_of, outcome_by, expected, start_of, Agrees, IsEndOf, IsAfter, StartSays, HasRun, HasConsole, LeavesObjects, IsStopped, IsGivenUp, Says, opening}
+use Rattle.bascule_top.specs.Commands.{Launch, TURNS, is_name, are_args, is_launch, start_settings}
+use Rattle.bascule_top.specs.Runs.{end_of, EndsIn, EndsRun, IsGivenUpAfter, BreaksRun}
+use Rattle.bascule_top.specs.Outcomes.{outcome_by, expected, start_of, IsAfter, StartSays, HasConsole, LeavesObjects, IsStopped, IsGivenUp, Says, opening}
 use Rattle.bascule_top.specs.Begun.{Begun}
 use Rattle.bascule_top.specs.Histories.{Came}
 
-can_start : (name : List ℕ) → is_name name ≡ true → CanBoot name [] start_settings
-can_start name named =
-    let parts = and_parts (nat_le 1 (length name)) (nat_le (length name) 80) named in
+can_start : (launch : Launch) → is_launch launch ≡ true → CanBoot launch.name launch.args start_settings
+can_start launch named =
+    let both = and_parts (is_name launch.name) (are_args launch.args) named in
+    let parts = and_parts (nat_le 1 (length launch.name)) (nat_le (length launch.name) 80) both.0 in
+    let args = and_parts (nat_le (length launch.args) 15) (list_all (λ arg. nat_le (length arg) 80) launch.args) both.1 in
     record {
-      named = leb-true 1 (length name) parts.0;
-      short = leb-true (length name) 80 parts.1;
-      few = omega arith;
-      small = refl;
+      named = leb-true 1 (length launch.name) parts.0;
+      short = leb-true (length launch.name) 80 parts.1;
+      few = leb-true (length launch.args) 15 args.0;
+      small = args.1;
       acceptable = refl;
     }
 
 -- the library OS that begins fits a host that was not used
-pub Fits-opening : (name : List ℕ) (os : LibOs) (o : Objects) (answered : ℕ) → is_name name ≡ true → IsFreshWorld o answered → IsSound o → os ≡ opening name → Fits os o
-Fits-opening name os o answered named fresh sound is =
-    subst (λ (s : LibOs). Fits s o) (sym is) (boot_fits name [] start_settings o answered (can_start name named) fresh sound)
+pub Fits-opening : (launch : Launch) (os : LibOs) (o : Objects) (answered : ℕ) → is_launch launch ≡ true → IsFreshWorld o answered → IsSound o → os ≡ opening launch → Fits os o
+Fits-opening launch os o answered named fresh sound is =
+    subst (λ (s : LibOs). Fits s o) (sym is) (boot_fits launch.name launch.args start_settings o answered (can_start launch named) fresh sound)
 
 same_some : {A : Type 0} (x : Option A) (a b : A) → x ≡ Some a → x ≡ Some b → a ≡ b
 same_some x a b p q = cc
@@ -62,10 +63,10 @@ same_some x a b p q = cc
 settled_means : (b : Moment) (x : Readable) → b.os.cont ≡ None → (meaning_at b x).0 ≡ meant_settled b.os (seen_at b x) b.os.boot
 settled_means b x settled = ap (λ cont. (meant b.os (seen_at b x) cont).0) settled
 
-begun_from : (name : List ℕ) (objects : Objects) (told : Told) (journal : Option (List Crossing)) (answered count : ℕ) (b : Moment)
-    → IsFreshWorld objects count → (let a = moment (opening name) objects told journal answered in Serves a b → StartsQuietly a b → History 0 a b → b.os.cont ≡ None → Begun name a b)
-begun_from name objects told journal answered count b fresh serves quiet history settled =
-    let a : Moment = moment (opening name) objects told journal answered in
+begun_from : (launch : Launch) (objects : Objects) (told : Told) (journal : Option (List Crossing)) (answered count : ℕ) (b : Moment)
+    → IsFreshWorld objects count → (let a = moment (opening launch) objects told journal answered in Serves a b → StartsQuietly a b → History 0 a b → b.os.cont ≡ None → Begun launch a b)
+begun_from launch objects told journal answered count b fresh serves quiet history settled =
+    let a : Moment = moment (opening launch) objects told journal answered in
     let same : b.told ≡ a.told = quiet.quiet (λ some. refl) in
     record {
       history = history;
@@ -80,37 +81,37 @@ begun_from name objects told journal answered count b fresh serves quiet history
     }
 
 -- from the library OS that was made
-pub Begun-served : (name : List ℕ) (os : LibOs) (objects : Objects) (told : Told) (journal : Option (List Crossing)) (answered count : ℕ) (b : Moment)
-    → os ≡ opening name → IsFreshWorld objects count → (let a = moment os objects told journal answered in Serves a b → StartsQuietly a b → History 0 a b → b.os.cont ≡ None
-    → Begun name (moment (opening name) objects told journal answered) b)
-Begun-served name os objects told journal answered count b is fresh serves quiet history settled =
+pub Begun-served : (launch : Launch) (os : LibOs) (objects : Objects) (told : Told) (journal : Option (List Crossing)) (answered count : ℕ) (b : Moment)
+    → os ≡ opening launch → IsFreshWorld objects count → (let a = moment os objects told journal answered in Serves a b → StartsQuietly a b → History 0 a b → b.os.cont ≡ None
+    → Begun launch (moment (opening launch) objects told journal answered) b)
+Begun-served launch os objects told journal answered count b is fresh serves quiet history settled =
     let at : LibOs → Moment = λ v. moment v objects told journal answered in
-    begun_from name objects told journal answered count b fresh (subst (λ v. Serves (at v) b) is serves) (subst (λ v. StartsQuietly (at v) b) is quiet)
+    begun_from launch objects told journal answered count b fresh (subst (λ v. Serves (at v) b) is serves) (subst (λ v. StartsQuietly (at v) b) is quiet)
     (subst (λ v. History 0 (at v) b) is history) settled
 
 boot_fits_as : (b : Moment) (boot : Boot) → b.os.cont ≡ None → b.os.boot ≡ boot → Fits b.os b.objects → FitsBoot b.os b.objects boot
 boot_fits_as b boot settled is fits = subst (FitsBoot b.os b.objects) is (subst (FitsCont b.os b.objects) settled fits)
 
-module _ (name : List ℕ) (a b : Moment) (begun : Begun name a b) where
+module _ (launch : Launch) (a b : Moment) (begun : Begun launch a b) where
   -- the run has begun
   pub IsUp-begun : b.os.boot ≡ boots.Up → IsUp b.os b.objects
   IsUp-begun up = record { up = up; settled = begun.settled; fits = boot_fits_as b boots.Up begun.settled up begun.fits }
 
-  begins_as : (boot : Boot) → b.os.boot ≡ boot → (x : Readable) → readable a.told ≡ Some x → start_of name x ≡ meant_settled b.os (seen_at b x) boot
+  begins_as : (boot : Boot) → b.os.boot ≡ boot → (x : Readable) → readable a.told ≡ Some x → start_of launch x ≡ meant_settled b.os (seen_at b x) boot
   begins_as boot is x e = begun.means x e ∙ ap (meant_settled b.os (seen_at b x)) is
 
   told_begun : (x : Readable) → readable a.told ≡ Some x → readable b.told ≡ Some x
   told_begun x e = ap readable begun.told ∙ e
 
   -- there is no program to run
-  none_says : (result : Outcome) (start : Started) → ((x : Readable) → readable a.told ≡ Some x → start_of name x ≡ start) → result ≡ expected name start
-      → ((x : Readable) → IsAfter start b.objects a.told b.told x) → WhereReadable a.told b.told (StartSays result name b.objects a.told b.told)
+  none_says : (result : Outcome) (start : Started) → ((x : Readable) → readable a.told ≡ Some x → start_of launch x ≡ start) → result ≡ expected launch start
+      → ((x : Readable) → IsAfter start b.objects a.told b.told x) → WhereReadable a.told b.told (StartSays result launch b.objects a.told b.told)
   none_says result start begins is after = record {
     holds = λ x e. (
       x,
       told_begun x e,
       record {
-        outcome_is = is ∙ ap (expected name) (sym (begins x e));
+        outcome_is = is ∙ ap (expected launch) (sym (begins x e));
         after = subst (λ s. IsAfter s b.objects a.told b.told x) (sym (begins x e)) (after x);
       },
     );
@@ -119,13 +120,13 @@ module _ (name : List ℕ) (a b : Moment) (begun : Begun name a b) where
   console : (boot : Boot) → FitsNone b.os b.objects → HasConsole b.objects
   console boot fits = record { records = b.os; fit = fits; unturned = begun.unturned }
 
-  pub Says-no_program : (result : Outcome) → result ≡ outcome.NoProgram name → b.os.boot ≡ boots.NoProgram → Says result name a.told b.objects b.told
+  pub Says-no_program : (result : Outcome) → result ≡ outcome.NoProgram launch.name → b.os.boot ≡ boots.NoProgram → Says result launch a.told b.objects b.told
   Says-no_program result is none = record {
     objects = subst (λ r. LeavesObjects r b.objects) (sym is) (console boots.NoProgram (boot_fits_as b boots.NoProgram begun.settled none begun.fits));
     contents = none_says result starting.NoProgram (begins_as boots.NoProgram none) is (λ x. begun.told);
   }
 
-  pub Says-bad_program : (cause : ProgramRefusal) → b.os.boot ≡ boots.BadProgram cause → Says (outcome.BadProgram cause) name a.told b.objects b.told
+  pub Says-bad_program : (cause : ElfError) → b.os.boot ≡ boots.BadProgram cause → Says (outcome.BadProgram cause) launch a.told b.objects b.told
   Says-bad_program cause bad = record {
     objects = console (boots.BadProgram cause) (boot_fits_as b (boots.BadProgram cause) begun.settled bad begun.fits);
     contents = none_says (outcome.BadProgram cause) (starting.BadProgram cause) (begins_as (boots.BadProgram cause) bad) refl (λ x. begun.told);
@@ -154,19 +155,19 @@ module _ (name : List ℕ) (a b : Moment) (begun : Begun name a b) where
   leaves (run.Stuck turns) d ends =
       (record { records = d.os; fit = ends.up; exit = ends.stops.0 }, sym (turns_after d ends.made ends.within ends.turns ∙ ends.stops.1), ends.stops.2)
 
-  run_says : (end : RunEnd) (d : Moment) (ends : EndsRun TURNS end b d) (x y : Readable) → start_of name x ≡ Runs (machine_at b x) → EndsIn TURNS (end_of end) b d x y
-      → StartSays (of_run end) name d.objects a.told d.told x y
+  run_says : (end : RunEnd) (d : Moment) (ends : EndsRun TURNS end b d) (x y : Readable) → start_of launch x ≡ Runs (machine_at b x) → EndsIn TURNS (end_of end) b d x y
+      → StartSays (of_run end) launch d.objects a.told d.told x y
   run_says end d ends x y begins is = record {
     outcome_is = expected_is end d ends
         ∙ (λ i. outcome_by (sym is.ends i) (sym (ap (λ (m : Mono). m.positions.turns) is.last) i))
-        ∙ ap (expected name) (sym begins);
+        ∙ ap (expected launch) (sym begins);
     after = subst (λ s. IsAfter s d.objects a.told d.told y) (sym begins) (record {
       agrees = record { records = d.os; fit = ends.up; same = sym is.last };
       written = subst (λ t. IsWritten t d.told (run_of TURNS (machine_at b x)).written) begun.told is.written;
     });
   }
 
-  says_run : (end : RunEnd) (d : Moment) → b.os.boot ≡ boots.Up → EndsRun TURNS end b d → Says (of_run end) name a.told d.objects d.told
+  says_run : (end : RunEnd) (d : Moment) → b.os.boot ≡ boots.Up → EndsRun TURNS end b d → Says (of_run end) launch a.told d.objects d.told
   says_run end d up ends = record {
     objects = leaves end d ends;
     contents = record {
@@ -176,17 +177,17 @@ module _ (name : List ℕ) (a b : Moment) (begun : Begun name a b) where
     };
   }
 
-  pub Says-run : (given end : RunEnd) (d : Moment) → given ≡ end → b.os.boot ≡ boots.Up → EndsRun TURNS given b d → Says (of_run end) name a.told d.objects d.told
+  pub Says-run : (given end : RunEnd) (d : Moment) → given ≡ end → b.os.boot ≡ boots.Up → EndsRun TURNS given b d → Says (of_run end) launch a.told d.objects d.told
   Says-run given end d is up ends = says_run end d up (subst (λ e. EndsRun TURNS e b d) is ends)
 
   -- ---- histories
 
-  pub Came-no_program : (result : Outcome) → result ≡ outcome.NoProgram name → b.os.boot ≡ boots.NoProgram → Came result a b.objects b.told b.journal b.answered
+  pub Came-no_program : (result : Outcome) → result ≡ outcome.NoProgram launch.name → b.os.boot ≡ boots.NoProgram → Came result a b.objects b.told b.journal b.answered
   Came-no_program result is none =
       subst (λ r. Came r a b.objects b.told b.journal b.answered) (sym is)
       (record { os = b.os; turns = 0; history = begun.history; settled = begun.settled; ends = (none, refl) })
 
-  pub Came-bad_program : (cause : ProgramRefusal) → b.os.boot ≡ boots.BadProgram cause → Came (outcome.BadProgram cause) a b.objects b.told b.journal b.answered
+  pub Came-bad_program : (cause : ElfError) → b.os.boot ≡ boots.BadProgram cause → Came (outcome.BadProgram cause) a b.objects b.told b.journal b.answered
   Came-bad_program cause bad = record { os = b.os; turns = 0; history = begun.history; settled = begun.settled; ends = (bad, refl) }
 
   history_of : (end : RunEnd) (d : Moment) (ends : EndsRun TURNS end b d) → History ends.made a d
@@ -206,7 +207,7 @@ module _ (name : List ℕ) (a b : Moment) (begun : Begun name a b) where
   -- ---- given up
 
   -- behind the start
-  pub IsGivenUp-begun : IsGivenUp name a b.told b.journal b.answered
+  pub IsGivenUp-begun : IsGivenUp launch a b.told b.journal b.answered
   IsGivenUp-begun = record {
     turns = 0;
     within = omega arith;
@@ -215,7 +216,7 @@ module _ (name : List ℕ) (a b : Moment) (begun : Begun name a b) where
   }
 
   -- in its run
-  pub IsGivenUp-run : (t : Told) (journal : Option (List Crossing)) (answered : ℕ) → b.os.boot ≡ boots.Up → BreaksRun TURNS b t journal answered → IsGivenUp name a t journal answered
+  pub IsGivenUp-run : (t : Told) (journal : Option (List Crossing)) (answered : ℕ) → b.os.boot ≡ boots.Up → BreaksRun TURNS b t journal answered → IsGivenUp launch a t journal answered
   IsGivenUp-run t journal answered up breaks = record {
     turns = suc breaks.before;
     within = breaks.within;
@@ -232,8 +233,8 @@ module _ (name : List ℕ) (a b : Moment) (begun : Begun name a b) where
   }
 
 -- before and while the start is served nothing that is told has changed
-pub IsGivenUp-start : (name : List ℕ) (a : Moment) (t : Told) (journal : Option (List Crossing)) (answered : ℕ) → t ≡ a.told → Broken 0 a t journal answered → IsGivenUp name a t journal answered
-IsGivenUp-start name a t journal answered same broken = record {
+pub IsGivenUp-start : (launch : Launch) (a : Moment) (t : Told) (journal : Option (List Crossing)) (answered : ℕ) → t ≡ a.told → Broken 0 a t journal answered → IsGivenUp launch a t journal answered
+IsGivenUp-start launch a t journal answered same broken = record {
   turns = 0;
   within = omega arith;
   broken = broken;
@@ -241,11 +242,11 @@ IsGivenUp-start name a t journal answered same broken = record {
 }
 
 -- from the library OS that was made
-pub IsGivenUp-boot : (name : List ℕ) (os : LibOs) (objects : Objects) (told : Told) (journal : Option (List Crossing)) (answered : ℕ) (t : Told) (j : Option (List Crossing)) (n : ℕ)
-    → os ≡ opening name → (ServesNoTrap os → t ≡ told) → Broken 0 (moment os objects told journal answered) t j n → IsGivenUp name (moment (opening name) objects told journal answered) t j n
-IsGivenUp-boot name os objects told journal answered t j n is unchanged broken =
-    IsGivenUp-start name (moment (opening name) objects told journal answered) t j n (subst (λ v. ServesNoTrap v → t ≡ told) is unchanged (λ some. refl))
+pub IsGivenUp-boot : (launch : Launch) (os : LibOs) (objects : Objects) (told : Told) (journal : Option (List Crossing)) (answered : ℕ) (t : Told) (j : Option (List Crossing)) (n : ℕ)
+    → os ≡ opening launch → (ServesNoTrap os → t ≡ told) → Broken 0 (moment os objects told journal answered) t j n → IsGivenUp launch (moment (opening launch) objects told journal answered) t j n
+IsGivenUp-boot launch os objects told journal answered t j n is unchanged broken =
+    IsGivenUp-start launch (moment (opening launch) objects told journal answered) t j n (subst (λ v. ServesNoTrap v → t ≡ told) is unchanged (λ some. refl))
     (subst (λ v. Broken 0 (moment v objects told journal answered) t j n) is broken)
 
-pub IsGivenUp-first : (name : List ℕ) (a : Moment) → IsGivenUp name a a.told a.journal a.answered
-IsGivenUp-first name a = IsGivenUp-start name a a.told a.journal a.answered refl (broken_here 0 a a (history_none a))
+pub IsGivenUp-first : (launch : Launch) (a : Moment) → IsGivenUp launch a a.told a.journal a.answered
+IsGivenUp-first launch a = IsGivenUp-start launch a a.told a.journal a.answered refl (broken_here 0 a a (history_none a))

@@ -4,13 +4,18 @@ use Rattle.mono_model.specs.Machine.{Mono}
 use Rattle.mono_model.specs.Readable.{Readable}
 use Rattle.mono_model.specs.Starting.{Runs, boot}
 use Rattle.mono_model.specs.Turns.{Exited, run_of}
-use Rattle.bascule_top.specs.Commands.{TURNS, start_settings, start_job}
+use Rattle.bascule_top.specs.Commands.{Launch, TURNS, start_settings, start_job}
 
 abbrev pub hello_name : List ℕ
 hello_name = codes "/bin/hi"
 
+-- It is started without further arguments.
+abbrev pub hello : Launch
+hello = record { name = hello_name; args = [] }
+
 -- The program's file. From byte 120 on:
---     li a0, 1; auipc a1, 0; addi a1, a1, 32; li a2, 3; li a7, 64; ecall; li a0, 0; li a7, 93; ecall
+--     li a0, 1; auipc a1, 0; addi a1, a1, 32; li a2, 3; li a7, 64; ecall;
+--     li a0, 0; li a7, 93; ecall
 -- and behind them the text.
 unfoldable pub hello_file : List ℕ
 hello_file =
@@ -33,7 +38,7 @@ hello_text = codes "hi" ++ 10 ∷ []
 -- they were.
 pub record SaysHello (x : Readable) : Type 0 where
   pub machine : Mono
-  pub booted : boot start_settings x (start_job hello_name) ≡ Runs machine
+  pub booted : boot start_settings x (start_job hello) ≡ Runs machine
   pub ends : (run_of TURNS machine).end ≡ Exited 0
   pub turns : (run_of TURNS machine).last.positions.turns ≡ 2
   pub output : (run_of TURNS machine).written.output ≡ hello_text

@@ -10,10 +10,11 @@ use Rattle.libos_state.specs.declared.state.LibOs.{LibOs}
 use Rattle.libos_state.specs.Records.{exit_code}
 use Rattle.turn_engine.specs.Moment.{Moment, moment}
 use Rattle.turn_engine.specs.History.{History}
-use Rattle.bascule_top.specs.declared.outcome.Outcome.{Outcome}
-use Rattle.bascule_top.specs.declared.outcome.Outcome.TheVariants.{Exited, Bound, Stuck, NoProgram, BadProgram, HostFault, OutOfMemory}
-use Rattle.bascule_top.specs.Commands.{Command, Start, Asm, TURNS}
-use Rattle.bascule_top.specs.Outcomes.{IsGivenUp, opening}
+use Rattle.bas_outcomes.specs.declared.outcome.Outcome.{Outcome}
+use Rattle.bas_outcomes.specs.declared.outcome.Outcome.TheVariants.{Exited, Bound, Stuck, NoProgram, BadProgram, AlreadyUsed, HostFault, OutOfMemory}
+use Rattle.bascule_top.specs.Commands.{Launch, Command, Start, TURNS}
+use Rattle.bascule_top.specs.Outcomes.{GivesUp, opening}
+use Rattle.bascule_top.specs.States.{HostState, over}
 
 -- How the library OS stands at the end of a start with this outcome, and how many turns it made.
 abbrev pub EndsAs : Outcome → LibOs → ℕ → Type 0
@@ -24,7 +25,7 @@ EndsAs (NoProgram name) os turns = (os.boot ≡ boots.NoProgram) × (turns ≡ 0
 EndsAs (BadProgram cause) os turns = (os.boot ≡ boots.BadProgram cause) × (turns ≡ 0)
 EndsAs _ os turns = ⊥
 
--- The start came to its outcome: from the library OS that opens the program of this name each turn
+-- The start came to its outcome: from the library OS that opens the program each turn
 -- and each call was the next one, and at the end nothing is in progress.
 pub record Came (outcome : Outcome) (a : Moment) (o' : Objects) (told' : Told)
     (journal' : Option (List Crossing)) (answered' : ℕ) : Type 0 where
@@ -34,18 +35,20 @@ pub record Came (outcome : Outcome) (a : Moment) (o' : Objects) (told' : Told)
   pub settled : os.cont ≡ None
   pub ends : EndsAs outcome os turns
 
--- A start's history: up to its outcome, or to where it was given up.
-abbrev pub IsHistory : Outcome → List ℕ → Moment → Objects → Told → Option (List Crossing) → ℕ
-    → Type 0
-IsHistory HostFault name a o' told' journal' answered' = IsGivenUp name a told' journal' answered'
-IsHistory OutOfMemory name a o' told' journal' answered' =
-    IsGivenUp name a told' journal' answered'
-IsHistory outcome name a o' told' journal' answered' = Came outcome a o' told' journal' answered'
+-- The start came to its outcome between these states of the host.
+abbrev pub ComesTo : Outcome → Launch → HostState → HostState → Type 0
+ComesTo outcome launch s s' =
+    Came outcome (over (opening launch) s) s'.objects s'.told s'.journal s'.answered
 
--- The history of a command: of a start, as no other command uses the host.
-abbrev pub Historic : Outcome → Option Command → Objects → Told → Option (List Crossing) → ℕ
-    → Objects → Told → Option (List Crossing) → ℕ → Type 0
-Historic outcome (Some (Start name)) o told journal answered o' told' journal' answered' =
-    IsHistory outcome name (moment (opening name) o told journal answered) o' told' journal'
-    answered'
-Historic outcome _ o told journal answered o' told' journal' answered' = Unit {0}
+-- A start's history: up to its outcome, or to where it was given up. On a host that was used before
+-- there is none.
+abbrev pub IsHistory : Outcome → Launch → HostState → HostState → Type 0
+IsHistory AlreadyUsed launch s s' = s' ≡ s
+IsHistory HostFault launch s s' = GivesUp launch s s'
+IsHistory OutOfMemory launch s s' = GivesUp launch s s'
+IsHistory outcome launch s s' = ComesTo outcome launch s s'
+
+-- The history of a command: of a start, as no other command makes a run.
+abbrev pub Historic : Outcome → Option Command → HostState → HostState → Type 0
+Historic outcome (Some (Start launch)) s s' = IsHistory outcome launch s s'
+Historic outcome _ s s' = Unit {0}

@@ -1,9 +1,11 @@
 pub mod Commands
 pub mod Words
+pub mod States
 pub mod Runs
 pub mod Outcomes
 pub mod Begun
 pub mod Histories
 pub mod Assembly
-pub mod Status
+pub mod Copying
+pub mod Carried
 pub mod Hello

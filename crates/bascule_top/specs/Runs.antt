@@ -1,5 +1,5 @@
 -- What a run of the machine over a host is.
-use Rattle.std.specs.Prelude.{◌≡◌, ◌⊎◌, ℕ, zero, suc, ◌+◌, ◌%◌, ◌^◌, ◌≤◌, ◌++◌, List}
+use Rattle.std.specs.Prelude.{◌≡◌, ◌⊎◌, ℕ, zero, suc, ◌+◌, ◌%◌, ◌^◌, ◌≤◌, List}
 use Rattle.std.specs.declared.option.Option.{Option}
 use Rattle.std.specs.declared.option.Option.TheVariants.{None, Some}
 use Rattle.abi_calls.specs.declared.host.Crossing.{Crossing}
@@ -8,12 +8,12 @@ use Rattle.abi_calls.specs.World.{Told}
 use Rattle.abi_calls.specs.Turn.{world_turn}
 use Rattle.mono_model.specs.Machine.{Mono}
 use Rattle.mono_model.specs.Readable.{Readable}
-use Rattle.mono_model.specs.Written.{Written, nothing, and_then}
+use Rattle.mono_model.specs.Written.{Written, and_then}
 use Rattle.mono_model.specs.Calls.{Served, silently}
-use Rattle.mono_model.specs.Turns.{End, Exited, Bound, Stuck, Ending, turn_of, run_of, behind}
+use Rattle.mono_model.specs.Turns.{End, Exited, Bound, Stuck, turn_of, run_of, behind}
 use Rattle.libos_state.specs.Records.{exit_code}
 use Rattle.libos_state.specs.Laws.{IsRest}
-use Rattle.turn_engine.specs.Inside.{WhereReadable, IsWritten, IsPartly}
+use Rattle.turn_engine.specs.Inside.{WhereReadable, IsWritten}
 use Rattle.turn_engine.specs.Moment.{Moment, machine_at}
 use Rattle.turn_engine.specs.Serves.{IsUp}
 use Rattle.turn_engine.specs.History.{History, Broken}

@@ -2,9 +2,9 @@ ghost use Rattle.std.specs.Prelude.{◌≡◌, ◌≢◌, IfOk, OnErr};
 ghost use Rattle.bas_edge.specs.Faults.{HasCause};
 ghost use Rattle.bascule_top.specs.Assembly.{SaysOfAssembly};
 
-use crate::outcome::{Outcome, Report};
 use bas_edge::{EdgeError, Fetched, Shelf, fetch};
 use bas_items::Items;
+use bas_outcomes::{Outcome, Report};
 use rv_asm::{AsmError, assemble};
 use std::alloc::{AllocError, Global};
 

@@ -3,11 +3,11 @@
 
 mod assembly;
 mod command;
+mod copying;
 mod laws;
-mod outcome;
 mod run;
 mod top;
 
+pub use bas_outcomes::{Outcome, Report, tell};
 pub use laws::hello_runs;
-pub use outcome::{Outcome, Report};
 pub use top::bascule;

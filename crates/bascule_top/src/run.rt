@@ -1,9 +1,9 @@
 ghost use Rattle.std.specs.Prelude.{◌≡◌, IfOk, OnErr};
 ghost use Rattle.bas_edge.specs.Faults.{HasCause};
 ghost use Rattle.turn_engine.specs.Serves.{IsUp};
-ghost use Rattle.turn_engine.specs.Moment.{moment};
 ghost use Rattle.bascule_top.specs.Commands as spec;
 ghost use Rattle.bascule_top.specs.Runs.{EndsRun, BreaksRun};
+ghost use Rattle.bascule_top.specs.States.{over, state_of};
 
 use abi_calls::Host;
 use libos_calls::exit_code;
@@ -32,8 +32,10 @@ pub fn run<H: Host>(
 ) -> Result<RunEnd, EngineError>
     requires up { IsUp machine.old.os (H.objects host.old) }
     requires unturned { (H.objects host.old).positions.turns ≡ 0 }
-    ensures ends { IfOk result (λ end. EndsRun spec.TURNS end (moment machine.old.os (H.objects host.old) (H.told host.old) (H.journal host.old) (H.answered_count host.old)) (moment machine.new.os (H.objects host.new) (H.told host.new) (H.journal host.new) (H.answered_count host.new))) }
-    ensures breaks { OnErr result (BreaksRun spec.TURNS (moment machine.old.os (H.objects host.old) (H.told host.old) (H.journal host.old) (H.answered_count host.old)) (H.told host.new) (H.journal host.new) (H.answered_count host.new)) }
+    ensures ends { IfOk result (λ end.
+        EndsRun spec.TURNS end (over machine.old.os (state_of H.Host host.old)) (over machine.new.os (state_of H.Host host.new))) }
+    ensures breaks { OnErr result (BreaksRun spec.TURNS
+        (over machine.old.os (state_of H.Host host.old)) (H.told host.new) (H.journal host.new) (H.answered_count host.new)) }
     ensures cause { HasCause EngineError.Failed (H.fault_count host.old) (H.fault_count host.new) result }
 {
     for turn in 0..TURNS {

@@ -1,6 +1,6 @@
 -- Tests, unions and maxima over the numbers below n.
 use Rattle.std.proofs.Common.{◌≡◌, ◌⊎◌, ℕ, zero, suc, ◌+◌, ◌^◌, ◌<◌, ◌≤◌, max, Bool, true, false, ◌||◌, bit_or, refl, ap, sym, ◌∙◌, inl, inr, ⊎_elim, arith, add-one, subst}
-use Rattle.std.proofs.lemmas.Bool.{or_left, or_right, or_parts, or_cases, or_from, cases_order, cases_eq}
+use Rattle.std.proofs.lemmas.Bool.{or_left, or_right, or_parts, or_cases, or_from, cases_order, cases_lt, cases_eq}
 use Rattle.std.specs.Int.{bit_at}
 use Rattle.std.proofs.lemmas.Nat.{or_lt, pow_pos}
 use Rattle.std.proofs.lemmas.Nat.Bits.{bit_at-zero, bit_at-lt, bit_at_or}
@@ -53,21 +53,9 @@ module _ (test : ℕ → Bool) where
       (or_cases (any_below test n) (test n) is)
 
 module _ (value : ℕ → ℕ) where
-  pub union_below-none : union_below value 0 ≡ 0
-  unfolding union_below
-  union_below-none = refl
-
   pub union_below-more : (n : ℕ) → union_below value (n + 1) ≡ bit_or (union_below value n) (value n)
   unfolding union_below
   union_below-more n = rw add-one refl
-
-  pub max_below-none : max_below value 0 ≡ 0
-  unfolding max_below
-  max_below-none = refl
-
-  pub max_below-more : (n : ℕ) → max_below value (n + 1) ≡ max (max_below value n) (value n)
-  unfolding max_below
-  max_below-more n = rw add-one refl
 
   pub max_below-at : (n j : ℕ) → j < n → value j ≤ max_below value n
   unfolding max_below
@@ -85,6 +73,22 @@ max_below-le value bound (suc n) le =
     let front = max_below-le value bound n (λ j below. le j (omega arith)) in
     let last = le n (omega arith) in
     omega arith
+
+-- a maximum is 0 or one of the values
+pub max_below-some : (value : ℕ → ℕ) (n : ℕ) → (max_below value n ≡ 0) ⊎ ((j : ℕ) × (j < n) × (value j ≡ max_below value n))
+unfolding max_below
+max_below-some value zero = inl refl
+max_below-some value (suc n) =
+    ⊎_elim
+    (λ (last : max_below value n < value n). inr (n, omega arith, omega arith))
+    (λ (front : value n ≤ max_below value n).
+    let same : max (max_below value n) (value n) ≡ max_below value n = omega arith in
+    ⊎_elim
+    (λ (none : max_below value n ≡ 0). inl (same ∙ none))
+    (λ (some : (j : ℕ) × (j < n) × (value j ≡ max_below value n)).
+    inr (some.0, (let l = some.1 in omega arith), some.2 ∙ sym same))
+    (max_below-some value n))
+    (cases_lt (max_below value n) (value n))
 
 pub union_below-lt : (value : ℕ → ℕ) (k n : ℕ) → ((j : ℕ) → value j < 2 ^ k) → union_below value n < 2 ^ k
 unfolding union_below

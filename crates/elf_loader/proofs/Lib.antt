@@ -1,3 +1,4 @@
+pub mod Apart
 pub mod Below
 mod Examples
 pub mod ExtentLists
@@ -5,6 +6,5 @@ pub mod ImageLaws
 pub mod MemoryBytes
 pub mod PageTables
 pub mod Refusals
-pub mod SpanBytes
-pub mod Spans
+pub mod SegmentBytes
 pub mod TouchedPages

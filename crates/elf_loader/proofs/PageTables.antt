@@ -11,11 +11,11 @@ use Rattle.std.proofs.lemmas.List.{take_at, drop_at, length-map, set-append_righ
 use Rattle.elf_loader.specs.declared.pages.Page.{Page}
 use Rattle.elf_loader.specs.declared.header.ProgramHeader.{ProgramHeader}
 use Rattle.elf_loader.specs.Fields.{e_phnum, program_header}
-use Rattle.elf_loader.specs.Segments.{any_below, union_below, is_segment, first_page, last_page, touches, segment_rights, is_touched, end_page}
+use Rattle.elf_loader.specs.Segments.{any_below, union_below, is_segment, first_page, last_page, touches, segment_rights, is_touched, page_rights, end_page}
 use Rattle.elf_loader.specs.Refusal.{pages}
-use Rattle.elf_loader.specs.Steps.{table_of, Adds, Overflows}
+use Rattle.elf_loader.specs.Steps.{table_of, touched_pages, Adds, Overflows}
 use Rattle.elf_loader.proofs.Below.{any_below-more, any_below-at, any_below-some, union_below-more}
-use Rattle.elf_loader.proofs.TouchedPages.{touches-within, touches-no_segment}
+use Rattle.elf_loader.proofs.TouchedPages.{touches-within, touches-no_segment, is_touched-from_end, is_touched-last}
 
 -- Where a test implies another
 
@@ -473,3 +473,83 @@ module _ (file : List ℕ) where
 pub table_of-below : (held : ℕ → Bool) (rights : ℕ → ℕ) (n k : ℕ) (d : Page) → k < length (table_of held rights n) → (get_or (table_of held rights n) k d).number < n
 unfolding table_of
 table_of-below held rights n k d within = let at = part-at held rights n 0 k d within in omega (arith, at.1)
+
+-- The touched pages of a file
+
+length-table_of-zero : (held : ℕ → Bool) (rights : ℕ → ℕ) → length (table_of held rights 0) ≡ 0
+unfolding table_of
+length-table_of-zero held rights = refl
+
+touched_rise : (file : List ℕ) (i j : ℕ) (d : Page) → i < j → j < length (touched_pages file) → (get_or (touched_pages file) i d).number < (get_or (touched_pages file) j d).number
+unfolding table_of
+touched_rise file i j d less inside = part-rises (is_touched file) (page_rights file) (end_page file) 0 i j d less inside
+
+module _ (file : List ℕ) (pages : List Page) (is : pages ≡ touched_pages file) where
+  pub touched_pages-found : (q i : ℕ) (d : Page) → i < length pages → ((e : Page) → nat_cmp (get_or pages i e).number q ≡ Equal) → (get_or pages i d).rights ≡ page_rights file q
+  touched_pages-found q i d within hit =
+      let held = is_touched file in
+      let rights = page_rights file in
+      let n = end_page file in
+      let inside : i < length (table_of held rights n) = subst (λ (xs : List Page). i < length xs) is within in
+      let number : (get_or (table_of held rights n) i d).number ≡ q = equal_to _ q (subst (λ (xs : List Page). nat_cmp (get_or xs i d).number q ≡ Equal) is (hit d)) in
+      let below : q < n = omega (arith, table_of-below held rights n i d inside, number) in
+      let found = found_at held rights n q below i inside (subst (λ (xs : List Page). (e : Page) → nat_cmp (get_or xs i e).number q ≡ Equal) is hit) in
+      ap (λ (xs : List Page). (get_or xs i d).rights) is
+      ∙ (ap (λ k. (get_or (table_of held rights n) k d).rights) found.1
+      ∙ ap (λ page. page.rights) (place_here held rights n q below d found.0))
+
+  untouched : (q : ℕ) → is_touched file q ≡ false → 0 ≡ page_rights file q
+  unfolding is_touched page_rights
+  untouched q none = sym (rights_below-none file (e_phnum file) q none)
+
+  pub touched_pages-missed : (q i : ℕ) → i ≤ length pages → IsBinarySearchResult (λ page. nat_cmp page.number q) pages (Err i) → 0 ≡ page_rights file q
+  touched_pages-missed q i within missed =
+      let held = is_touched file in
+      let rights = page_rights file in
+      let n = end_page file in
+      untouched q
+      (⊎_elim
+      (λ (below : q < n).
+      (gap_at held rights n q below i (subst (λ (xs : List Page). i ≤ length xs) is within)
+      (subst (λ (xs : List Page). IsBinarySearchResult (λ page. nat_cmp page.number q) xs (Err i)) is missed)).0)
+      (λ (above : n ≤ q). is_touched-from_end file q above)
+      (cases_lt q n))
+
+  at_end : (m : ℕ) (d : Page) → m + 1 ≡ end_page file → (0 < length pages) × ((get_or pages (length pages - 1) d).number ≡ m)
+  at_end m d last =
+      let held = is_touched file in
+      let rights = page_rights file in
+      let n = end_page file in
+      let below : m < n = omega arith in
+      let touched = is_touched-last file m last in
+      let place = ap (λ page. page.number) (place_here held rights n m below d touched) in
+      let size = length_here held rights n m below touched in
+      let most : ℕ = length (table_of held rights n) - 1 in
+      let inside : most < length (table_of held rights n) = omega arith in
+      let limit = table_of-below held rights n most d inside in
+      subst (λ (xs : List Page). (0 < length xs) × ((get_or xs (length xs - 1) d).number ≡ m)) (sym is) (
+        omega arith,
+        ⊎_elim
+            (λ (less : length (low held rights n m below) < most). let more = touched_rise file (length (low held rights n m below)) most d less inside in absurd (omega arith))
+            (λ (same : most ≤ length (low held rights n m below)).
+            let here : most ≡ length (low held rights n m below) = omega arith in
+            ap (λ k. (get_or (table_of held rights n) k d).number) here ∙ place)
+            (cases_lt (length (low held rights n m below)) most),
+      )
+
+  pub touched_pages-last : (d : Page) → 0 < length pages → (get_or pages (length pages - 1) d).number + 1 ≡ end_page file
+  touched_pages-last d some = by (end_page file) refl
+    where
+      by : (n : ℕ) → end_page file ≡ n → (get_or pages (length pages - 1) d).number + 1 ≡ end_page file
+      by zero none =
+          let all = ap length (is ∙ ap (table_of (is_touched file) (page_rights file)) none) in
+          let empty = length-table_of-zero (is_touched file) (page_rights file) in
+          absurd (omega arith)
+      by (suc m) last = let at = (at_end m d (omega arith)).1 in omega arith
+
+  pub touched_pages-none : length pages ≡ 0 → 0 ≡ end_page file
+  touched_pages-none none = by (end_page file) refl
+    where
+      by : (n : ℕ) → end_page file ≡ n → 0 ≡ end_page file
+      by zero nothing = sym nothing
+      by (suc m) last = let some = (at_end m (record { number = 0; rights = 0 }) (omega arith)).0 in absurd (omega arith)

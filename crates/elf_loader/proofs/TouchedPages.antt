@@ -1,10 +1,10 @@
 -- Which pages are touched.
-use Rattle.std.proofs.Common.{◌≡◌, ℕ, ◌+◌, ◌<◌, ◌≤◌, true, false, cond, leb, List, arith}
-use Rattle.std.proofs.lemmas.Bool.{and_left, and_right, and_from, and_parts, cond-true, false_from_ne_true, le-leb, lt-leb, leb-true}
+use Rattle.std.proofs.Common.{◌≡◌, ℕ, ◌+◌, ◌<◌, ◌≤◌, ◌==◌, true, false, cond, leb, ltb, List, sym, ◌∙◌, ⊎_elim, arith}
+use Rattle.std.proofs.lemmas.Bool.{and_left, and_from, and_parts, cases_Bool, cond-true, cond-false, false_from_ne_true, le-leb, leb-true, ltb-true}
 use Rattle.elf_loader.specs.declared.header.ProgramHeader.{ProgramHeader}
 use Rattle.elf_loader.specs.Fields.{e_phnum, program_header}
 use Rattle.elf_loader.specs.Segments.{is_segment, first_page, last_page, touches, is_touched, end_page}
-use Rattle.elf_loader.proofs.Below.{any_below-some, max_below-at}
+use Rattle.elf_loader.proofs.Below.{any_below-at, any_below-some, max_below-at, max_below-some}
 
 module _ (h : ProgramHeader) (page : ℕ) where
   pub touches-within : is_segment h ≡ true → first_page h ≤ page → page ≤ last_page h → touches h page ≡ true
@@ -15,16 +15,6 @@ module _ (h : ProgramHeader) (page : ℕ) where
   pub touches-no_segment : is_segment h ≡ false → touches h page ≡ false
   unfolding touches
   touches-no_segment lacks = and_left (is_segment h) _ lacks
-
-  pub touches-above : last_page h < page → touches h page ≡ false
-  unfolding touches
-  touches-above above =
-      and_right (is_segment h) _ (and_right (leb (first_page h) page) (leb page (last_page h)) (lt-leb page (last_page h) above))
-
-  pub touches-under : page < first_page h → touches h page ≡ false
-  unfolding touches
-  touches-under under =
-      and_right (is_segment h) _ (and_left (leb (first_page h) page) (leb page (last_page h)) (lt-leb (first_page h) page under))
 
   pub touches-parts : touches h page ≡ true → (is_segment h ≡ true) × (first_page h ≤ page) × (page ≤ last_page h)
   unfolding touches
@@ -54,3 +44,24 @@ is_touched-below_end file page is =
 
 pub is_touched-from_end : (file : List ℕ) (page : ℕ) → end_page file ≤ page → is_touched file page ≡ false
 is_touched-from_end file page above = false_from_ne_true _ (λ is. let below = is_touched-below_end file page is in omega arith)
+
+-- the page before the end is touched
+pub is_touched-last : (file : List ℕ) (page : ℕ) → page + 1 ≡ end_page file → is_touched file page ≡ true
+unfolding is_touched end_page
+is_touched-last file page is =
+    let value : ℕ → ℕ = λ j. cond (is_segment (program_header file j)) (last_page (program_header file j) + 1) 0 in
+    ⊎_elim
+    (λ (none : end_page file ≡ 0). absurd (omega arith))
+    (λ (some : (j : ℕ) × (j < e_phnum file) × (value j ≡ end_page file)).
+    let h = program_header file some.0 in
+    ⊎_elim
+    (λ (segment : is_segment h ≡ true).
+    let last : last_page h + 1 ≡ end_page file = sym (cond-true (is_segment h) (last_page h + 1) 0 segment) ∙ some.2 in
+    let size : 0 < h.p_memsz = ltb-true 0 h.p_memsz (and_parts (h.p_type == 1) (ltb 0 h.p_memsz) segment).1 in
+    any_below-at (λ j. touches (program_header file j) page) (e_phnum file) some.0 some.1
+    (touches-within h page segment (omega arith) (omega arith)))
+    (λ (none : is_segment h ≡ false).
+    let nothing : 0 ≡ end_page file = sym (cond-false (is_segment h) (last_page h + 1) 0 none) ∙ some.2 in
+    absurd (omega arith))
+    (cases_Bool (is_segment h)))
+    (max_below-some value (e_phnum file))

@@ -1,5 +1,6 @@
--- The fields of an ELF-64 file that the loader reads (System V ABI, "ELF Header" and "Program Header"), by
--- their offsets. Numbers are little-endian, and a byte past the end of the file reads as 0.
+-- The fields of an ELF-64 file that the loader reads (System V ABI, "ELF Header" and "Program
+-- Header"), by their offsets. Numbers are little-endian, and a byte past the end of the file reads
+-- as 0.
 use Rattle.std.specs.Prelude.{ℕ, zero, suc, ◌+◌, ◌*◌, List, ◌∷◌, codes, slice_index}
 use Rattle.elf_loader.specs.declared.header.ProgramHeader.{ProgramHeader}
 

@@ -23,9 +23,14 @@ use Rattle.elf_loader.specs.Refusal.{refusal, pages}
 abbrev pub page_extent : List ℕ → ℕ → Extent
 page_extent file page = record { page = page; count = 1; rights = page_rights file page }
 
--- Where the runs of the program lie: the touched pages, joined where they are adjacent and have equal rights.
+-- Where the runs of the program lie: the touched pages, joined where they are adjacent and have
+-- equal rights.
 unfoldable pub layout_of : List ℕ → Layout
-layout_of file = record { entry = e_entry file; runs = merged (map (page_extent file) (pages file)); end = 4096 * end_page file }
+layout_of file = record {
+  entry = e_entry file;
+  runs = merged (map (page_extent file) (pages file));
+  end = 4096 * end_page file;
+}
 
 -- The bytes of so many addresses, from one on.
 unfoldable pub bytes_at : List ℕ → ℕ → ℕ → List ℕ
@@ -37,10 +42,18 @@ page_bytes file page count = bytes_at file (4096 * page) (4096 * count)
 
 -- A run with its bytes.
 abbrev pub run_of : List ℕ → Extent → Run
-run_of file extent = record { page = extent.page; rights = extent.rights; bytes = page_bytes file extent.page extent.count }
+run_of file extent = record {
+  page = extent.page;
+  rights = extent.rights;
+  bytes = page_bytes file extent.page extent.count;
+}
 
 abbrev pub with_bytes : List ℕ → Layout → Program
-with_bytes file layout = record { entry = layout.entry; runs = map (run_of file) layout.runs; end = layout.end }
+with_bytes file layout = record {
+  entry = layout.entry;
+  runs = map (run_of file) layout.runs;
+  end = layout.end;
+}
 
 unfoldable pub program_of : List ℕ → Program
 program_of file = with_bytes file (layout_of file)
@@ -69,7 +82,8 @@ Tells (Err Memory) answer = IsOk answer
 -- The runs have the touched pages, each with its rights, rise, and are as long as can be.
 pub record IsLayout (file : List ℕ) (layout : Layout) : Type 0 where
   pub maximal : AreMaximal layout.runs
-  pub rights : (page : ℕ) → extent_rights layout.runs page ≡ (if is_touched file page then Some (page_rights file page) else None)
+  pub rights : (page : ℕ) → extent_rights layout.runs page
+      ≡ (if is_touched file page then Some (page_rights file page) else None)
   pub entry : layout.entry ≡ e_entry file
   pub end : layout.end ≡ 4096 * end_page file
 
@@ -81,12 +95,17 @@ abbrev pub extent_of : Run → Extent
 extent_of run = record { page = run.page; count = page_count run; rights = run.rights }
 
 abbrev pub without_bytes : Program → Layout
-without_bytes program = record { entry = program.entry; runs = map extent_of program.runs; end = program.end }
+without_bytes program = record {
+  entry = program.entry;
+  runs = map extent_of program.runs;
+  end = program.end;
+}
 
 -- The runs lie as the file's layout says, and each has the bytes of its pages.
 pub record IsImage (file : List ℕ) (program : Program) : Type 0 where
   pub layout : IsLayout file (without_bytes program)
-  pub bytes : AllByRecursion (λ run. run.bytes ≡ page_bytes file run.page (page_count run)) program.runs
+  pub bytes : AllByRecursion (λ run. run.bytes ≡ page_bytes file run.page (page_count run))
+      program.runs
 
 -- What a new process needs: few pages, below those of its stack, and an entry that can be run.
 pub record IsRunOfProcess (extent : Extent) : Type 0 where

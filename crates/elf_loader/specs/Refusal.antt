@@ -15,11 +15,13 @@ abbrev pub or_later : Option ElfError → Option ElfError → Option ElfError
 or_later (Some error) later = Some error
 or_later None later = later
 
--- The file header (System V ABI, "ELF Header"): ELF-64 (class 2), little-endian (order 1), executable (ET_EXEC,
--- 2), for RISC-V (EM_RISCV, 243). Its program headers, if it has any, are entries of 56 bytes within the file.
+-- The file header (System V ABI, "ELF Header"): ELF-64 (class 2), little-endian (order 1),
+-- executable (ET_EXEC, 2), for RISC-V (EM_RISCV, 243). Its program headers, if it has any, are
+-- entries of 56 bytes within the file.
 abbrev pub lacks_table : List ℕ → Bool
 lacks_table file =
-    not (e_phnum file == 0) && (not (e_phentsize file == 56) || nat_lt (length file) (e_phoff file + 56 * e_phnum file))
+    not (e_phnum file == 0)
+    && (not (e_phentsize file == 56) || nat_lt (length file) (e_phoff file + 56 * e_phnum file))
 
 unfoldable pub file_refusal : List ℕ → Option ElfError
 file_refusal file =
@@ -32,8 +34,8 @@ file_refusal file =
     else (if lacks_table file then Some Table
     else None))))))
 
--- A program header (System V ABI, "Program Header"). The bytes that a segment has in the file, if any, have to
--- be there, and may be no more than its bytes in memory.
+-- A program header (System V ABI, "Program Header"). The bytes that a segment has in the file, if
+-- any, have to be there, and may be no more than its bytes in memory.
 unfoldable pub leaves_file : List ℕ → ProgramHeader → Bool
 leaves_file file h = nat_lt 0 h.p_filesz && nat_lt (length file) (h.p_offset + h.p_filesz)
 
@@ -42,13 +44,15 @@ abbrev pub leaves_pages : ProgramHeader → Bool
 leaves_pages h = nat_lt h.p_vaddr 4096 || nat_lt ((2 ^ 26 - 16) * 4096) (memory_end h)
 
 unfoldable pub is_misplaced : List ℕ → ProgramHeader → Bool
-is_misplaced file h = is_segment h && (nat_lt h.p_memsz h.p_filesz || (leaves_file file h || leaves_pages h))
+is_misplaced file h =
+    is_segment h && (nat_lt h.p_memsz h.p_filesz || (leaves_file file h || leaves_pages h))
 
 -- It has to lie apart from the segments before it.
 unfoldable pub meets_earlier : List ℕ → ℕ → Bool
 meets_earlier file i = any_below (λ j. meets (program_header file i) (program_header file j)) i
 
--- What a header gives by itself: one of type PT_INTERP (3) asks for an interpreter, which no program may.
+-- What a header gives by itself: one of type PT_INTERP (3) asks for an interpreter, which no
+-- program may.
 unfoldable pub lone_refusal : List ℕ → ℕ → Option ElfError
 lone_refusal file i =
     if (program_header file i).p_type == 3 then Some Interp
@@ -56,7 +60,8 @@ lone_refusal file i =
     else None)
 
 unfoldable pub header_refusal : List ℕ → ℕ → Option ElfError
-header_refusal file i = or_later (lone_refusal file i) (if meets_earlier file i then Some (Overlap i) else None)
+header_refusal file i =
+    or_later (lone_refusal file i) (if meets_earlier file i then Some (Overlap i) else None)
 
 -- The first n program headers, in their order.
 unfoldable pub header_refusals : List ℕ → ℕ → Option ElfError
@@ -67,7 +72,8 @@ header_refusals file (suc n) = or_later (header_refusals file n) (header_refusal
 unfoldable pub pages : List ℕ → List ℕ
 pages file = filter (is_touched file) (range_with_len 0 (end_page file))
 
--- The program as a whole has at most 1,008 pages. Its entry is a multiple of 4, in a page with the right to run.
+-- The program as a whole has at most 1,008 pages. Its entry is a multiple of 4, in a page with the
+-- right to run.
 abbrev pub is_runnable : List ℕ → ℕ → Bool
 is_runnable file address = bit_at (page_rights file (address / 4096)) 2 == 1
 
@@ -79,4 +85,6 @@ program_refusal file =
 
 -- The file header comes first, then the program headers, then the program.
 abbrev pub refusal : List ℕ → Option ElfError
-refusal file = or_later (file_refusal file) (or_later (header_refusals file (e_phnum file)) (program_refusal file))
+refusal file =
+    or_later (file_refusal file)
+    (or_later (header_refusals file (e_phnum file)) (program_refusal file))

@@ -1,5 +1,5 @@
--- Segments: the parts of memory that the program headers of type PT_LOAD ask for (System V ABI, "Program
--- Loading"), and the pages of 4,096 bytes that they touch.
+-- Segments: the parts of memory that the program headers of type PT_LOAD ask for (System V ABI,
+-- "Program Loading"), and the pages of 4,096 bytes that they touch.
 use Rattle.std.specs.Prelude.{ℕ, zero, suc, ◌+◌, ◌-◌, ◌*◌, ◌/◌, ◌==◌, nat_lt, nat_le, max, Bool, false, ◌&&◌, ◌||◌, if◌then◌else◌, List, slice_index, bit_or}
 use Rattle.std.specs.Int.{bit_at}
 use Rattle.elf_loader.specs.declared.header.ProgramHeader.{ProgramHeader}
@@ -34,12 +34,15 @@ covers h address = is_segment h && (nat_le h.p_vaddr address && nat_lt address (
 
 -- Two segments have an address in common.
 unfoldable pub meets : ProgramHeader → ProgramHeader → Bool
-meets h other = is_segment h && (is_segment other && (nat_lt h.p_vaddr (memory_end other) && nat_lt other.p_vaddr (memory_end h)))
+meets h other =
+    is_segment h && (is_segment other
+    && (nat_lt h.p_vaddr (memory_end other) && nat_lt other.p_vaddr (memory_end h)))
 
 -- The byte of a segment at an address: from the file, or 0 past p_filesz.
 unfoldable pub segment_byte : List ℕ → ProgramHeader → ℕ → ℕ
 segment_byte file h address =
-    if nat_lt (address - h.p_vaddr) h.p_filesz then slice_index file (h.p_offset + (address - h.p_vaddr)) else 0
+    if nat_lt (address - h.p_vaddr) h.p_filesz
+    then slice_index file (h.p_offset + (address - h.p_vaddr)) else 0
 
 -- Pages
 
@@ -64,15 +67,19 @@ is_touched file page = any_below (λ i. touches (program_header file i) page) (e
 -- The union of the rights of the segments that touch the page.
 unfoldable pub page_rights : List ℕ → ℕ → ℕ
 page_rights file page =
-    union_below (λ i. if touches (program_header file i) page then segment_rights (program_header file i) else 0) (e_phnum file)
+    union_below
+    (λ i. if touches (program_header file i) page
+    then segment_rights (program_header file i) else 0) (e_phnum file)
 
 -- The page after the last one that is touched.
 unfoldable pub end_page : List ℕ → ℕ
 end_page file =
-    max_below (λ i. if is_segment (program_header file i) then last_page (program_header file i) + 1 else 0) (e_phnum file)
+    max_below
+    (λ i. if is_segment (program_header file i)
+    then last_page (program_header file i) + 1 else 0) (e_phnum file)
 
--- The byte at an address: of the first n headers, the last that covers it gives it, and 0 stands where none
--- does. Where segments share no address it is the one that covers it.
+-- The byte at an address: of the first n headers, the last that covers it gives it, and 0 stands
+-- where none does. Where segments share no address it is the one that covers it.
 unfoldable pub byte_below : List ℕ → ℕ → ℕ → ℕ
 byte_below file address zero = 0
 byte_below file address (suc n) =

@@ -131,10 +131,10 @@ pub fn layout(alloc: Global, bytes: &[u8]) -> Result<Layout, LoadError>
     file.check_headers(alloc)?;
     let table = file.pages()?;
     let pages = table.as_slice();
-    if !file.has_entry() {
+    if !file.has_entry(pages) {
         return Err(LoadError::Refused(ElfError::Entry));
     }
-    let end = file.end_page();
+    let end = pages::end_page(pages);
     let runs = runs::runs(alloc, pages)?;
     Ok(Layout {
         entry: file.entry(),
@@ -175,6 +175,3 @@ pub fn load(alloc: Global, bytes: &[u8]) -> Result<Program, LoadError>
         end: layout.end,
     })
 }
-
-#[cfg(test)]
-mod tests;

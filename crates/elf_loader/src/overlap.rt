@@ -1,17 +1,17 @@
 ghost use Rattle.std.specs.Prelude.{◌≡◌, ◌<◌, ◌≤◌, ℕ, IfOk, IsTrue, MatchOption, false, true};
 ghost use Rattle.std.specs.List.Sorted.{IsNonDecreasingBy};
 ghost use Rattle.elf_loader.specs.Refusal.{meets_earlier};
-ghost use Rattle.elf_loader.specs.Steps.{AreNumbered, HasSpans, LieApart};
+ghost use Rattle.elf_loader.specs.Steps.{AreRead, HasSegments, LieApart};
 
 use crate::file::ElfFile;
+use crate::header::ProgramHeader;
 use std::alloc::{AllocError, Global};
 
-/// The addresses of a segment, from `start` to before `end`, with the number of its header.
+/// A segment: its header, and the header's number.
 #[derive(Clone, Copy)]
-pub struct Span {
+pub struct Segment {
     pub number: usize,
-    pub start: u64,
-    pub end: u128,
+    pub header: ProgramHeader,
 }
 
 impl ElfFile<'_> {
@@ -30,44 +30,22 @@ impl ElfFile<'_> {
         false
     }
 
-    /// Whether the segments of the first `n` headers rise, so that none meets an earlier one.
-    fn rises(&self, n: usize) -> bool
-        requires { n ≤ self.now.count }
-        ensures { IsTrue result → (i : ℕ) → i < n → meets_earlier self.now.bytes.now i ≡ false }
-    {
-        let mut end = 0u128;
-        for i in 0..n {
-            let header = self.header(i);
-            if header.is_segment() {
-                if u128::from(header.p_vaddr) < end {
-                    return false;
-                }
-                end = header.memory_end();
-            }
-        }
-        true
-    }
-
     /// The segments of the first `n` headers, by their addresses.
-    pub fn spans(&self, alloc: Global, n: usize) -> Result<Vec<Span>, AllocError>
+    pub fn segments(&self, alloc: Global, n: usize) -> Result<Vec<Segment>, AllocError>
         requires { n ≤ self.now.count }
-        ensures there { IfOk result (λ spans. HasSpans self.now.bytes.now n spans.items) }
-        ensures numbered { IfOk result (λ spans. AreNumbered n spans.items) }
-        ensures rising { IfOk result (λ spans. IsNonDecreasingBy (λ span. span.start) spans.items) }
+        ensures there { IfOk result (λ segments. HasSegments self.now.bytes.now n segments.items) }
+        ensures read { IfOk result (λ segments. AreRead self.now.bytes.now n segments.items) }
+        ensures rising { IfOk result (λ segments. IsNonDecreasingBy (λ s. s.header.p_vaddr) segments.items) }
     {
-        let mut spans = Vec::new(alloc);
+        let mut segments = Vec::new(alloc);
         for number in 0..n {
             let header = self.header(number);
             if header.is_segment() {
-                spans.push(Span {
-                    number,
-                    start: header.p_vaddr,
-                    end: header.memory_end(),
-                })?;
+                segments.push(Segment { number, header })?;
             }
         }
-        spans.sort_unstable_by_key(|span| span.start);
-        Ok(spans)
+        segments.sort_unstable_by_key(|segment| segment.header.p_vaddr);
+        Ok(segments)
     }
 
     /// A number of headers of the first `n`, from the first on, whose segments lie apart. It is the greatest
@@ -77,20 +55,17 @@ impl ElfFile<'_> {
         ensures within { result ≤ n }
         ensures apart { (i : ℕ) → i < result → meets_earlier self.now.bytes.now i ≡ false }
     {
-        if self.rises(n) {
-            return n;
-        }
-        let Ok(spans) = self.spans(alloc, n) else {
+        let Ok(segments) = self.segments(alloc, n) else {
             return 0;
         };
-        if lie_apart(spans.as_slice(), n) {
+        if lie_apart(segments.as_slice(), n) {
             return n;
         }
         let mut apart = 0;
         let mut beyond = n;
         while apart + 1 < beyond {
             let middle = apart + (beyond - apart) / 2;
-            if lie_apart(spans.as_slice(), middle) {
+            if lie_apart(segments.as_slice(), middle) {
                 apart = middle;
             } else {
                 beyond = middle;
@@ -99,14 +74,19 @@ impl ElfFile<'_> {
         apart
     }
 
-    /// The first of the first `n` headers whose segment shares an address with an earlier one.
-    pub fn first_overlap(&self, alloc: Global, n: usize) -> Option<usize>
-        requires { n ≤ self.now.count }
+    /// The first of the first `n` headers whose segment shares an address with an earlier one. There is none
+    /// where the segments rise.
+    pub fn first_overlap(&self, alloc: Global, n: usize, rising: bool) -> Option<usize>
+        requires within { n ≤ self.now.count }
+        requires apart { rising ≡ true → (i : ℕ) → i < n → meets_earlier self.now.bytes.now i ≡ false }
         ensures { MatchOption result
             ((i : ℕ) → i < n → meets_earlier self.now.bytes.now i ≡ false)
             (λ first. (first < n) × (meets_earlier self.now.bytes.now first ≡ true)
             × ((i : ℕ) → i < first → meets_earlier self.now.bytes.now i ≡ false)) }
     {
+        if rising {
+            return None;
+        }
         for i in self.apart_count(alloc, n)..n {
             if self.meets_earlier(i) {
                 return Some(i);
@@ -116,17 +96,17 @@ impl ElfFile<'_> {
     }
 }
 
-/// Whether those of the spans, which rise, that belong to the first `n` headers lie apart.
-fn lie_apart(spans: &[Span], n: usize) -> bool
-    ensures { IsTrue result → LieApart n spans.now }
+/// Whether those of the segments, which rise, that belong to the first `n` headers lie apart.
+fn lie_apart(segments: &[Segment], n: usize) -> bool
+    ensures { IsTrue result → LieApart n segments.now }
 {
     let mut end = 0;
-    for span in spans {
-        if span.number < n {
-            if u128::from(span.start) < end {
+    for segment in segments {
+        if segment.number < n {
+            if u128::from(segment.header.p_vaddr) < end {
                 return false;
             }
-            end = end.max(span.end);
+            end = end.max(segment.header.memory_end());
         }
     }
     true

@@ -1,7 +1,7 @@
-ghost use Rattle.std.specs.Prelude.{◌≡◌, ◌+◌, ◌<◌, ◌==◌, ◌&&◌, ◌%◌, ℕ, MatchResult, length, true};
+ghost use Rattle.std.specs.Prelude.{◌≡◌, ◌+◌, ◌^◌, ◌<◌, ◌==◌, ◌&&◌, ◌%◌, ℕ, All, List, MatchResult, length, true};
 ghost use Rattle.elf_loader.specs.Fields.{e_entry};
-ghost use Rattle.elf_loader.specs.Segments.{is_segment, is_touched, last_page, page_rights, end_page, segment_rights, touches};
-ghost use Rattle.elf_loader.specs.Steps.{Adds, Overflows, table_of};
+ghost use Rattle.elf_loader.specs.Segments.{is_segment, last_page, page_rights, end_page, segment_rights, touches};
+ghost use Rattle.elf_loader.specs.Steps.{Adds, Overflows, touched_pages};
 ghost use Rattle.elf_loader.specs.Refusal.{is_runnable, pages};
 
 use crate::ElfError;
@@ -28,8 +28,7 @@ impl ElfFile<'_> {
     /// The touched pages with their rights, or a refusal where there are more than 1,008.
     pub fn pages(&self) -> Result<Table, ElfError>
         ensures { MatchResult result
-            (λ table. table.items ≡ table_of (is_touched self.now.bytes.now)
-            (page_rights self.now.bytes.now) (end_page self.now.bytes.now))
+            (λ table. table.items ≡ touched_pages self.now.bytes.now)
             (λ error. (error ≡ ElfError.Big) × (1008 < length (pages self.now.bytes.now))) }
     {
         let mut table = ArrayVec::new();
@@ -42,49 +41,42 @@ impl ElfFile<'_> {
         Ok(table)
     }
 
-    /// The rights of a page: the sum of 1 to read, 2 to write and 4 to run.
-    #[tactic(auto, unfolding(crate::specs::Segments::page_rights))]
-    fn page_rights(&self, page: u64) -> u8
-        ensures { result ≡ page_rights self.now.bytes.now page }
-    {
-        let mut rights = 0;
-        for i in 0..self.count {
-            let header = self.header(i);
-            if header.touches(page) {
-                rights |= header.rights();
-            }
-        }
-        rights
-    }
-
-    /// The page after the last one that is touched.
-    #[tactic(auto, unfolding(crate::specs::Segments::end_page))]
-    pub fn end_page(&self) -> u64
-        ensures { result ≡ end_page self.now.bytes.now }
-    {
-        let mut end = 0u64;
-        for i in 0..self.count {
-            let header = self.header(i);
-            if header.is_segment() {
-                end = end.max(header.last_page() + 1);
-            }
-        }
-        end
-    }
-
-    fn is_runnable(&self, address: u64) -> bool
-        ensures { result ≡ is_runnable self.now.bytes.now address }
-    {
-        self.page_rights(address / PAGE_SIZE) & RUN != 0
-    }
-
     /// Whether the program can begin at its entry: a multiple of 4, in a page with the right to run.
-    pub fn has_entry(&self) -> bool
+    pub fn has_entry(&self, pages: &[Page]) -> bool
+        requires { pages.now ≡ touched_pages self.now.bytes.now }
         ensures { result ≡ (e_entry self.now.bytes.now % 4 == 0
             && is_runnable self.now.bytes.now (e_entry self.now.bytes.now)) }
     {
         let entry = self.entry();
-        entry % 4 == 0 && self.is_runnable(entry)
+        entry % 4 == 0 && is_runnable(pages, entry)
+    }
+}
+
+/// The page after the last of a file's touched pages, or 0.
+pub fn end_page(pages: &[Page]) -> u64
+    requires { All (λ page. page.number < 2 ^ 53) pages.now }
+    ensures { (file : List ℕ) → pages.now ≡ touched_pages file → result ≡ end_page file }
+{
+    match pages.last() {
+        Some(page) => page.number + 1,
+        None => 0,
+    }
+}
+
+fn is_runnable(pages: &[Page], address: u64) -> bool
+    ensures { (file : List ℕ) → pages.now ≡ touched_pages file → result ≡ is_runnable file address }
+{
+    page_rights(pages, address / PAGE_SIZE) & RUN != 0
+}
+
+/// The rights of the page of that number, of a file's touched pages: the sum of 1 to read, 2 to write and 4 to
+/// run, and 0 where it isn't there.
+fn page_rights(pages: &[Page], number: u64) -> u8
+    ensures { (file : List ℕ) → pages.now ≡ touched_pages file → result ≡ page_rights file number }
+{
+    match pages.binary_search_by_key(&number, |page| page.number) {
+        Ok(at) => pages[at].rights,
+        Err(_) => 0,
     }
 }
 

@@ -29,10 +29,6 @@ number_at-in_page s right page k (suc (suc n)) frame held allowed fits below =
     ∙ ap (λ a. above (Some (get_or frame.bytes k 0)) (number_at (memory_of s) right a (suc n))) next
     ∙ ap (above (Some (get_or frame.bytes k 0))) (number_at-in_page s right page (k + 1) (suc n) frame held allowed (omega arith) below)
 
-pub number_at_fails : (m : Memory) (right at n : ℕ) → 0 < n → byte_at m right at ≡ None → number_at m right at n ≡ None
-number_at_fails m right at zero some none = absurd (omega arith)
-number_at_fails m right at (suc n) some none = ap (λ o. above o (number_at m right ((at + 1) % 2 ^ 64) n)) none
-
 -- the frame with other bytes
 abbrev pub with_frame_bytes : Frame → List ℕ → Frame
 with_frame_bytes frame bytes = record { rights = frame.rights; bytes = bytes }

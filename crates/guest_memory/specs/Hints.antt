@@ -10,7 +10,8 @@ slot_of number = (if nat_lt number 65536 then number else 2 ^ 64 - 1 - number) %
 abbrev pub slot_at : List Page → ℕ → Page → ℕ
 slot_at pages place d = slot_of (slice_index_or pages place d).number
 
--- The hint in the slot of the page at a place is the place of a page from there on, before an end, with the same slot.
+-- The hint in the slot of the page at a place is the place of a page from there on, before an end,
+-- with the same slot.
 pub record IsNoted (pages : List Page) (hints : List ℕ) (end place : ℕ) (d : Page) : Type 0 where
   pub last : ℕ
   pub from_there : place ≤ last
@@ -20,10 +21,12 @@ pub record IsNoted (pages : List Page) (hints : List ℕ) (end place : ℕ) (d :
 
 -- Each page between two places is noted: of those that share a slot, the last.
 abbrev pub AreNoted : List Page → List ℕ → ℕ → ℕ → Type 0
-AreNoted pages hints from end = (place : ℕ) (d : Page) → from ≤ place → place < end → IsNoted pages hints end place d
+AreNoted pages hints from end =
+    (place : ℕ) (d : Page) → from ≤ place → place < end → IsNoted pages hints end place d
 
 -- The slots of no page between two places keep their hints.
 abbrev pub AreKept : List Page → List ℕ → List ℕ → ℕ → ℕ → Type 0
 AreKept pages before after from end =
-    (slot : ℕ) → ((place : ℕ) (d : Page) → from ≤ place → place < end → slot_at pages place d ≢ slot)
+    (slot : ℕ)
+    → ((place : ℕ) (d : Page) → from ≤ place → place < end → slot_at pages place d ≢ slot)
     → slice_index after slot ≡ slice_index before slot

@@ -30,11 +30,13 @@ pub record IsPlaceOf (pages : List Page) (number place : ℕ) : Type 0 where
   pub within : place < length pages
   pub is : (d : Page) → (slice_index_or pages place d).number ≡ number
 
--- The pages before a place have numbers below those of a run, and those from it on have numbers past it.
+-- The pages before a place have numbers below those of a run, and those from it on have numbers
+-- past it.
 pub record IsGap (pages : List Page) (number count place : ℕ) : Type 0 where
   pub within : place ≤ length pages
   pub lower : (k : ℕ) (d : Page) → k < place → (slice_index_or pages k d).number < number
-  pub higher : (k : ℕ) (d : Page) → place ≤ k → k < length pages → number + count ≤ (slice_index_or pages k d).number
+  pub higher : (k : ℕ) (d : Page) → place ≤ k → k < length pages
+      → number + count ≤ (slice_index_or pages k d).number
 
 -- The page of a number stands at a place, and the space has it.
 pub record IsFound (pages : List Page) (number place : ℕ) : Type 0 where

@@ -11,12 +11,12 @@ ghost use Rattle.guest_memory.specs.Refusals.{access_refusal, allocate_refusal, 
 use crate::access::{copy_in, copy_out, refused_access};
 use crate::error::PageError;
 use crate::page::{ALL_RIGHTS, MOST_PAGES, PAGE_SIZE, Page, READ, RUN, WRITE};
-use crate::place::{Hints, make_table, note_places};
+use crate::place::{Hints, find, make_table, note_places};
 use crate::run::{
     insert_run, is_page_run, missing_page, place_for, protect_run, refused_pages, remove_run,
 };
-use crate::word::{number_with, put};
-use rv_core::{Cells, Context, Ended, slice};
+use crate::word::{number_with, put, word_at};
+use rv_core::{Cells, CodeCells, Context, Ended, Memo, slice, slice_with};
 use std::alloc::Global;
 use std::marker::Model;
 
@@ -25,6 +25,8 @@ use std::marker::Model;
 pub struct Pages {
     pages: Vec<Page>,
     hints: Hints,
+    /// Where the page of the code was last found. It may be out of date, so whoever uses it compares the page's number.
+    code: usize,
 }
 
 impl Model for Pages {
@@ -46,7 +48,7 @@ impl Model for Pages {
 impl Cells for Pages {
     ghost memory = { memory_of };
 
-    #[inline]
+    #[inline(always)]
     fn fetch(&self, at: u64) -> Option<u32> {
         match number_with(&self.pages, &self.hints, at, 4, RUN) {
             Some(word) => Some(word as u32),
@@ -54,14 +56,29 @@ impl Cells for Pages {
         }
     }
 
-    #[inline]
+    #[inline(always)]
     fn load(&self, at: u64, size: u8) -> Option<u64> {
         number_with(&self.pages, &self.hints, at, size, READ)
     }
 
-    #[inline]
+    #[inline(always)]
     fn store(&mut self, at: u64, size: u8, value: u64) -> bool {
         put(&mut self.pages, &self.hints, at, size, value)
+    }
+}
+
+impl CodeCells for Pages {
+    #[inline(always)]
+    fn fetch_held(&self, at: u64) -> Option<u32> {
+        word_at(&self.pages, self.code, at)
+    }
+
+    #[inline(always)]
+    fn fetch_anew(&mut self, at: u64) -> Option<u32> {
+        if let Some(place) = find(&self.pages, &self.hints, at / PAGE_SIZE as u64) {
+            self.code = place;
+        }
+        self.fetch(at)
     }
 }
 
@@ -73,6 +90,7 @@ impl Pages {
         Pages {
             pages: Vec::new(alloc),
             hints: None,
+            code: 0,
         }
     }
 
@@ -272,6 +290,19 @@ impl Pages {
     {
         self.pages_are_sound();
         let ended = slice(context, self, n);
+        self.pages_are_sound();
+        ended
+    }
+
+    /// Does instructions of a thread over these pages until one traps or `n` are done, as `run` does, with words that
+    /// are decoded once.
+    #[inline]
+    pub fn run_with(&mut self, context: &mut Context, memo: &mut Memo, n: u32) -> Ended
+        ensures { run_space n context.old self.old
+            ≡ record { context = context.new; space = self.new; trap = trap_of result } }
+    {
+        self.pages_are_sound();
+        let ended = slice_with(context, self, memo, n);
         self.pages_are_sound();
         ended
     }

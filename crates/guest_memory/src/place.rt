@@ -1,4 +1,4 @@
-ghost use Rattle.std.specs.Prelude.{◌≡◌, MatchOption, MatchResult, length};
+ghost use Rattle.std.specs.Prelude.{◌≡◌, IsTrue, MatchOption, MatchResult, OnOk, is_some, length, true};
 ghost use Rattle.guest_memory.specs.Pages.{AreInOrder, IsFound, IsAbsent, IsGap, IsPlaceOf};
 ghost use Rattle.guest_memory.specs.Hints.{AreKept, AreNoted, slot_of};
 
@@ -17,6 +17,7 @@ const MAPPED: u64 = 65_536;
 
 /// The slot of a page. The pages of a program rise from the table's start, and pages mapped from 65,536 on, where a
 /// program seldom has others, fall from its end: so the first of either kind don't meet.
+#[inline(always)]
 fn slot(number: u64) -> usize
     ensures { result ≡ slot_of number }
 {
@@ -29,7 +30,9 @@ fn slot(number: u64) -> usize
 }
 
 /// Makes a table of hints where there is none yet.
-pub fn make_table(hints: &mut Hints, alloc: Global) -> Result<(), AllocError> {
+pub fn make_table(hints: &mut Hints, alloc: Global) -> Result<(), AllocError>
+    ensures { OnOk result (is_some hints.new ≡ true) }
+{
     if hints.is_none() {
         *hints = Some(Box::new(alloc, [0; HINTS])?);
     }
@@ -37,6 +40,7 @@ pub fn make_table(hints: &mut Hints, alloc: Global) -> Result<(), AllocError> {
 }
 
 /// The place of a page by binary search, or the place where it would have to be put.
+#[cold]
 pub fn search(pages: &[Page], number: u64) -> Result<usize, usize>
     requires { AreInOrder pages.now }
     ensures { MatchResult result (IsPlaceOf pages.now number) (IsGap pages.now number 1) }
@@ -44,15 +48,24 @@ pub fn search(pages: &[Page], number: u64) -> Result<usize, usize>
     pages.binary_search_by_key(&number, |page| page.number)
 }
 
+/// Whether the page of a number stands at a place.
+#[inline(always)]
+pub fn is_at(pages: &[Page], place: usize, number: u64) -> bool
+    requires { AreInOrder pages.now }
+    ensures { IsTrue result → IsFound pages.now number place }
+{
+    place < pages.len() && pages[place].number == number
+}
+
 /// The place of a page, at once where its hint is right.
-#[inline]
+#[inline(always)]
 pub fn find(pages: &[Page], hints: &Hints, number: u64) -> Option<usize>
     requires { AreInOrder pages.now }
     ensures { MatchOption result (IsAbsent pages.now number) (IsFound pages.now number) }
 {
     if let Some(table) = hints {
         let hint = table[slot(number)] as usize;
-        if hint < pages.len() && pages[hint].number == number {
+        if is_at(pages, hint, number) {
             return Some(hint);
         }
     }

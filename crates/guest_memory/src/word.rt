@@ -1,14 +1,14 @@
-ghost use Rattle.std.specs.Prelude.{◌≡◌, ℕ, ◌+◌, ◌^◌, ◌<◌, ◌≤◌, length, IfSome, is_some};
-ghost use Rattle.rv_core.specs.Memory.{IsSize, byte_at, number_at, storable, stored, with_byte_at, written};
+ghost use Rattle.std.specs.Prelude.{◌≡◌, ℕ, ◌+◌, ◌^◌, ◌<◌, ◌≤◌, length, Some, IfSome, is_some};
+ghost use Rattle.rv_core.specs.Memory.{IsSize, byte_at, fetched, number_at, storable, stored, with_byte_at, written};
 ghost use Rattle.guest_space.specs.Space.{memory_of};
 ghost use Rattle.guest_memory.specs.Pages.{AreInOrder, space_of};
 ghost use Rattle.guest_memory.specs.PageBytes.{bytes_number, with_number};
 
-use crate::page::{PAGE_SIZE, Page, WRITE};
-use crate::place::{Hints, find};
+use crate::page::{PAGE_SIZE, Page, RUN, WRITE};
+use crate::place::{Hints, find, is_at};
 
 /// The number of `size` bytes at `at` in a page, little-endian.
-#[inline]
+#[inline(always)]
 fn number_in(bytes: &[u8; PAGE_SIZE], at: usize, size: u8) -> u64
     requires size { IsSize size }
     requires within { at + size ≤ 4096 }
@@ -38,7 +38,7 @@ fn number_in(bytes: &[u8; PAGE_SIZE], at: usize, size: u8) -> u64
 }
 
 /// Puts the low `size` bytes of `value` at `at` into a page, little-endian.
-#[inline]
+#[inline(always)]
 fn put_in(bytes: &mut [u8; PAGE_SIZE], at: usize, size: u8, mut value: u64)
     requires within { at + size ≤ 4096 }
     ensures { bytes.new ≡ with_number bytes.old at size value }
@@ -89,7 +89,7 @@ fn number_across(pages: &[Page], hints: &Hints, at: u64, size: u8, right: u8) ->
 }
 
 /// The number of `size` bytes at `at`, little-endian, where each is there with the right.
-#[inline]
+#[inline(always)]
 pub fn number_with(pages: &[Page], hints: &Hints, at: u64, size: u8, right: u8) -> Option<u64>
     requires order { AreInOrder pages.now }
     requires size { IsSize size }
@@ -111,6 +111,22 @@ pub fn number_with(pages: &[Page], hints: &Hints, at: u64, size: u8, right: u8) 
         }
         None => None,
     }
+}
+
+/// The word of 4 bytes at `at`, if it is in the page at a place, and this page can be run.
+#[inline(always)]
+pub fn word_at(pages: &[Page], place: usize, at: u64) -> Option<u32>
+    requires { AreInOrder pages.now }
+    ensures { IfSome result (λ word. fetched (memory_of (space_of pages.now)) at ≡ Some word) }
+{
+    let offset = (at % PAGE_SIZE as u64) as usize;
+    if offset + 4 <= PAGE_SIZE && is_at(pages, place, at / PAGE_SIZE as u64) {
+        let page = &pages[place];
+        if page.rights & RUN == RUN {
+            return Some(number_in(&page.bytes, offset, 4) as u32);
+        }
+    }
+    None
 }
 
 /// Puts a byte at `at`, where a page is there.
@@ -140,7 +156,7 @@ fn put_across(pages: &mut [Page], hints: &Hints, mut at: u64, size: u8, mut valu
 
 /// Puts the low `size` bytes of `value` at `at`, little-endian; `false` where a byte isn't there or can't be
 /// written, and then nothing changes.
-#[inline]
+#[inline(always)]
 pub fn put(pages: &mut [Page], hints: &Hints, at: u64, size: u8, value: u64) -> bool
     requires order { AreInOrder pages.old }
     requires size { IsSize size }

@@ -32,21 +32,3 @@ get_outside s q sound out = absent (get s q) refl
         let above = f.above in
         let below = f.below in
         elim out [ inl e ↦ absurd (omega arith) | inr h ↦ absurd (omega arith) ]
-
-missing_if_outside : (s : Space) (page count q : ℕ) → IsSpace s → page ≤ q → q < page + count → (q ≡ 0) ⊎ (2 ^ 26 ≤ q) → (o : Option ℕ) → first_missing s page count ≡ o → is_some o ≡ true
-missing_if_outside s page count q sound low high out None is =
-    absurd (none-some q (sym (first_some_none_at (if_missing s) page count q is low high) ∙ if_missing_some s q (get_outside s q sound out)))
-missing_if_outside s page count q sound low high out (Some r) is = refl
-
--- a run that no process may have, of some pages, has one that isn't there
-pub first_missing-no_run : (s : Space) (page count : ℕ) → IsSpace s → 0 < count → is_run page count ≡ false → is_some (first_missing s page count) ≡ true
-first_missing-no_run s page count sound some none =
-    elim (cases_eq page 0) [
-      | inl e ↦ missing_if_outside s page count page sound (omega arith) (omega arith) (inl e) (first_missing s page count) refl
-      | inr ne ↦ elim (cases_lt (2 ^ 26) (page + count)) [
-        | inl past ↦ missing_if_outside s page count (page + count - 1) sound (omega arith) (omega arith) (inr (omega arith)) (first_missing s page count) refl
-        | inr fits ↦
-            let run : is_run page count ≡ true = grind (arith, nat_tests) in
-            absurd (true≢false (sym run ∙ none))
-      ]
-    ]

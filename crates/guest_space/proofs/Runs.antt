@@ -19,9 +19,6 @@ with_run-suc s page n rights = ap (λ k. with_run s page k rights) (let e : n + 
 outside_none : (page q : ℕ) → in_run page 0 q ≡ false
 outside_none page q = grind (arith, nat_tests)
 
-in_run_last : (page n : ℕ) → in_run page n (page + n) ≡ false
-in_run_last page n = grind (arith, nat_tests)
-
 in_run_more_last : (page n : ℕ) → in_run page (n + 1) (page + n) ≡ true
 in_run_more_last page n = grind (arith, nat_tests)
 

@@ -28,20 +28,6 @@ both true true is = (refl, refl)
 both true false is = absurd (cc)
 both false b is = absurd (cc)
 
--- a test that computes
-abbrev pub are_bytes : List ℕ → Bool
-are_bytes [] = true
-are_bytes (byte ∷ bytes) = nat_lt byte 256 && are_bytes bytes
-
-pub All-are_bytes : (bytes : List ℕ) → are_bytes bytes ≡ true → All (λ byte. byte < 256) bytes
-All-are_bytes [] is = All-nil {X = ℕ} (λ byte. byte < 256)
-All-are_bytes (byte ∷ bytes) is =
-    let parts = both (nat_lt byte 256) (are_bytes bytes) is in
-    All-cons (λ b. b < 256) byte bytes (ltb-true parts.0) (All-are_bytes bytes parts.1)
-  where
-    ltb-true : {a b : ℕ} → nat_lt a b ≡ true → a < b
-    ltb-true is = grind (arith, nat_tests)
-
 pub All-bytes_from : (m : Memory) (at n : ℕ) → HasBytes m → All (λ byte. byte < 256) (bytes_from m at n)
 unfolding bytes_from
 All-bytes_from m at zero small = All-nil {X = ℕ} (λ byte. byte < 256)

@@ -12,9 +12,11 @@ pub data AccessFault : Type 0 where
 
 abbrev pub fault_of_cell : ℕ → Option Cell → Option AccessFault
 fault_of_cell right None = Some Missing
-fault_of_cell right (Some cell) = if bit_and cell.rights right == right then None else Some Forbidden
+fault_of_cell right (Some cell) =
+    if bit_and cell.rights right == right then None else Some Forbidden
 
--- Of n bytes from an address on, why the first that can't be accessed can't. No bytes can always be accessed.
+-- Of n bytes from an address on, why the first that can't be accessed can't. No bytes can always be
+-- accessed.
 abbrev pub first_fault : Memory → ℕ → ℕ → ℕ → Option AccessFault
 first_fault m right at n = first_some (λ a. fault_of_cell right (m a)) at n
 

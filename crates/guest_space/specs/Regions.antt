@@ -1,4 +1,5 @@
--- The regions of a process: its adjacent pages of equal rights, each run of them as long as it can be.
+-- The regions of a process: its adjacent pages of equal rights, each run of them as long as it can
+-- be.
 use Rattle.std.specs.Prelude.{◌≡◌, ◌≢◌, ℕ, zero, suc, ◌+◌, ◌-◌, ◌*◌, ◌^◌, ◌<◌, ◌≤◌, ◌==◌, ◌&&◌, if◌then◌else◌, nat_lt, min, max, List, [], ◌∷◌, ◌++◌, map, length, slice_range}
 use Rattle.std.specs.List.{All}
 use Rattle.std.specs.Ordering.{nat_cmp}
@@ -12,7 +13,8 @@ use Rattle.guest_space.specs.Space.{Frame, Space, in_run, page_rights, memory_of
 abbrev pub extent_end : Extent → ℕ
 extent_end e = e.page + e.count
 
--- An extent before others: it ends where the next begins or earlier, and if there, the rights change.
+-- An extent before others: it ends where the next begins or earlier, and if there, the rights
+-- change.
 abbrev pub IsBefore : Extent → List Extent → Type 0
 IsBefore e [] = Unit {0}
 IsBefore e (next ∷ extents) =
@@ -77,7 +79,8 @@ abbrev pub pages_from : ℕ → List Extent → List Extent
 pages_from page [] = []
 pages_from page (e ∷ extents) =
     if nat_lt page (extent_end e)
-    then record e { page = max page e.page; count = extent_end e - max page e.page } ∷ pages_from page extents
+    then record e { page = max page e.page; count = extent_end e - max page e.page }
+    ∷ pages_from page extents
     else pages_from page extents
 
 -- The regions with an extent in place of what was there.

@@ -6,7 +6,8 @@ use Rattle.std.specs.declared.option.Option.TheVariants.{None, Some}
 use Rattle.guest_space.specs.Space.{Space}
 use Rattle.guest_space.specs.First.{first_some}
 
--- Whether a process may have the pages of a run: at least one page, not page 0, and none from 2^26 on.
+-- Whether a process may have the pages of a run: at least one page, not page 0, and none from 2^26
+-- on.
 abbrev pub is_run : ℕ → ℕ → Bool
 is_run page count = nat_lt 0 page && nat_lt 0 count && nat_le (page + count) (2 ^ 26)
 

@@ -1,5 +1,5 @@
--- The memory of a process: pages of 4,096 bytes by number, each with its rights, and the map from addresses
--- to bytes with rights that they make.
+-- The memory of a process: pages of 4,096 bytes by number, each with its rights, and the map from
+-- addresses to bytes with rights that they make.
 use Rattle.std.specs.Prelude.{◌≡◌, ℕ, zero, suc, ◌+◌, ◌*◌, ◌%◌, ◌/◌, ◌^◌, ◌<◌, ◌≤◌, Bool, if◌then◌else◌, ◌&&◌, nat_lt, nat_le, List, [], ◌∷◌, map, length, slice_index, replicate, refl}
 use Rattle.std.specs.List.{All}
 use Rattle.std.specs.Coded.{Coded, code_by, coded×, coded_ℕ, coded_list}

@@ -3,7 +3,7 @@ use Rattle.std.specs.Prelude.{◌≡◌, ◌⊎◌, ℕ, ◌+◌, ◌-◌, ◌==
 use Rattle.std.specs.Ordering.{nat_cmp}
 use Rattle.std.specs.Cmp.Lexicographic.{slice_cmp, nat_list_cmp_total}
 use Rattle.std.specs.FinMap.{empty, get, insert, remove, get-empty, get-insert, get-remove}
-use Rattle.std.proofs.Common.{refl, sym, ap, ◌∙◌, subst, inl, inr, arith}
+use Rattle.std.proofs.Common.{refl, sym, ap, ◌∙◌, subst, inl, inr, arith, leb-true}
 use Rattle.std.proofs.lemmas.Bool.{false≢true, lt-ltb, leb-false}
 use Rattle.bas_edge.specs.Files.{Files, HasFile, file_of, file_bytes, overwritten, with_file, with_bytes_at, with_renamed, without_file}
 use Rattle.bas_edge.proofs.FilesIn.{same_name, same_name-≡, get-insert_name, file_of-insert_same, file_of-remove_other}
@@ -130,6 +130,24 @@ user_count-insert users p n q = ap (λ o. unwrap_or o 0) (get-insert nat_list_cm
 
 user_count-remove : (users : Users) (p q : List ℕ) → user_count (remove users p) q ≡ unwrap_or (cond (same_name q p) None (get users q)) 0
 user_count-remove users p q = ap (λ o. unwrap_or o 0) (get-remove nat_list_cmp_total users p q)
+
+pub user_count-with_user : (users : Users) (name q : List ℕ) → user_count (with_user name users) q ≡ cond (same_name q name) (user_count users name + 1) (user_count users q)
+user_count-with_user users name q =
+    let n : ℕ = user_count users name + 1 in
+    user_count-insert users name n q
+    ∙ elim (same_name q name) as (λ b. unwrap_or (cond b (Some n) (get users q)) 0 ≡ cond b n (user_count users q)) [ true ↦ refl | false ↦ refl ]
+
+pub user_count-without_user : (users : Users) (name q : List ℕ) → user_count (without_user name users) q ≡ cond (same_name q name) (user_count users name - 1) (user_count users q)
+user_count-without_user users name q =
+    let n : ℕ = user_count users name in
+    elim (nat_le n 1) as (λ b. nat_le n 1 ≡ b → user_count (cond b (remove users name) (insert users name (n - 1))) q ≡ cond (same_name q name) (n - 1) (user_count users q)) [
+      | true ↦ λ e.
+          let none : 0 ≡ n - 1 = omega (arith, leb-true n 1 e) in
+          user_count-remove users name q ∙ elim (same_name q name) as (λ b. unwrap_or (cond b None (get users q)) 0 ≡ cond b (n - 1) (user_count users q)) [ true ↦ none | false ↦ refl ]
+      | false ↦ λ e.
+          user_count-insert users name (n - 1) q
+          ∙ elim (same_name q name) as (λ b. unwrap_or (cond b (Some (n - 1)) (get users q)) 0 ≡ cond b (n - 1) (user_count users q)) [ true ↦ refl | false ↦ refl ]
+    ] refl
 
 -- What has a user after one more of a file was counted is that file, or had a user.
 used-with_user : (users : Users) (name q : List ℕ) → is_used (with_user name users) q ≡ true → (q ≡ name) ⊎ (is_used users q ≡ true)

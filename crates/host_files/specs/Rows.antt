@@ -30,6 +30,11 @@ is_by_name (StreamDelete file) = true
 is_by_name (StreamRename from to) = true
 is_by_name call = false
 
+-- The call that may make a file and then fail all the same.
+abbrev pub may_make_file : Call → Bool
+may_make_file (StreamOpen stream create exclusive) = true
+may_make_file call = false
+
 -- A call reads or writes up to 65,536 bytes.
 abbrev pub bounded : ℕ → Files → Reply × Files → Reply × Files
 bounded count files answer = if nat_lt MOST_BYTES count then (TooBig, files) else answer

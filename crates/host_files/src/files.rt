@@ -3,7 +3,7 @@ ghost use Rattle.std.specs.FinMap.{empty};
 ghost use Rattle.bas_edge.specs.Faults.{HasCause};
 ghost use Rattle.abi_calls.specs.Abi.{takes_memory};
 ghost use Rattle.host_files.specs.Users.{is_used};
-ghost use Rattle.host_files.specs.Rows.{FollowsRow, IsOnFile, LeavesFiles, file_call_row, is_by_name, users_after};
+ghost use Rattle.host_files.specs.Rows.{FollowsRow, IsOnFile, LeavesFiles, file_call_row, is_by_name, may_make_file, users_after};
 
 use crate::serve::serve;
 use crate::users::Users;
@@ -73,7 +73,7 @@ impl<E: Store> Files<E> {
     ///
     /// # Errors
     /// `Failed` only where the store's count of faults rose in this call; `Memory`, where it didn't. After either the
-    /// files are as before, or as the call's row leaves them, and the users are as before. Close has no error.
+    /// files are as before, or at StreamOpen as its row leaves them, and the users are as before. Close has no error.
     pub fn call(&mut self, call: &Call, name: &[u8]) -> Result<Reply, HostError>
         requires on_file { IsOnFile call.now name.now }
         requires user { is_by_name call.now ≡ false → is_used self.old.users name.now ≡ true }
@@ -85,6 +85,8 @@ impl<E: Store> Files<E> {
         ensures left { OnErr result (LeavesFiles
             (file_call_row self.old.users call.now name.now)
             (E.files self.old.store) (E.files self.new.store)) }
+        ensures same_files { OnErr result (may_make_file call.now ≡ false
+            → E.files self.new.store ≡ E.files self.old.store) }
         ensures same_users { OnErr result (self.new.users ≡ self.old.users) }
         ensures memory { OnErr result (takes_memory call.now ≡ true) }
         ensures cause { HasCause HostError.Failed

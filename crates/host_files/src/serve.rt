@@ -3,7 +3,7 @@ ghost use Rattle.bas_edge.specs.Faults.{HasCause};
 ghost use Rattle.abi_calls.specs.Abi.{takes_memory};
 ghost use Rattle.host_files.specs.Users.{is_used};
 ghost use Rattle.host_files.specs.InUse.{AreThere};
-ghost use Rattle.host_files.specs.Rows.{FollowsRow, IsOnFile, LeavesFiles, file_call_row, is_by_name, users_after};
+ghost use Rattle.host_files.specs.Rows.{FollowsRow, IsOnFile, LeavesFiles, file_call_row, is_by_name, may_make_file, users_after};
 
 use crate::rows::{
     delete_file, measure_file, open_file, read_file, rename_file, resize_file, write_file,
@@ -30,6 +30,8 @@ pub(crate) fn serve<E: Store>(
         users.new ≡ users_after users.old call.now name.now reply) }
     ensures left { OnErr result (LeavesFiles (file_call_row users.old call.now name.now)
         (E.files store.old) (E.files store.new)) }
+    ensures same_files { OnErr result (may_make_file call.now ≡ false
+        → E.files store.new ≡ E.files store.old) }
     ensures same_users { OnErr result (users.new ≡ users.old) }
     ensures memory { OnErr result (takes_memory call.now ≡ true) }
     ensures cause { HasCause EdgeError.Failed

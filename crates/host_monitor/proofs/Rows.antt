@@ -1,34 +1,36 @@
 -- From what the outside gave to the answer of a call's row, and to what a failed call leaves.
-use Rattle.std.specs.Prelude.{◌≡◌, ◌≢◌, ℕ, ◌<◌, ◌≤◌, ◌⊎◌, true, false, ◌&&◌, nat_le, List, [], ◌∷◌, ◌++◌, length, take, drop, option_map, unwrap_or, is_some, IfSome}
+use Rattle.std.specs.Prelude.{◌≡◌, ℕ, ◌<◌, ◌≤◌, ◌⊎◌, true, false, List, [], ◌++◌, length, take, drop, option_map, unwrap_or, is_some, IfSome, Result, Ok, Err, IfOk, OnErr}
 use Rattle.std.specs.declared.option.Option.{Option}
 use Rattle.std.specs.declared.option.Option.TheVariants.{None, Some}
 use Rattle.std.specs.FinMap.{empty}
-use Rattle.std.proofs.Common.{refl, sym, ap, ◌∙◌, subst, inl, inr, arith}
-use Rattle.std.proofs.lemmas.Bool.{cond-true, cond-false, le-ltb, lt-ltb, le-leb, ne_eqb}
-use Rattle.std.proofs.lemmas.List.{nil_from_length}
+use Rattle.std.proofs.Common.{refl, sym, ap, ◌∙◌, subst, inl, inr}
+use Rattle.std.proofs.lemmas.Bool.{cond-true, cond-false, le-ltb, lt-ltb}
 use Rattle.bas_names.specs.declared.StreamName.{StreamName}
 use Rattle.bas_names.specs.declared.StreamName.TheVariants.{File, ConIn, ConOut, ConErr}
-use Rattle.bas_edge.specs.Files.{Files, file_of}
-use Rattle.abi_calls.specs.declared.limits.TheConstants.{LONGEST_NAME, MOST_BYTES}
+use Rattle.abi_calls.specs.declared.limits.TheConstants.{MOST_BYTES}
 use Rattle.abi_calls.specs.declared.call.Call.{Call}
 use Rattle.abi_calls.specs.declared.call.Call.TheVariants.{StreamOpen, StreamRead, StreamWrite, StreamLength, StreamSetLength}
 use Rattle.abi_calls.specs.declared.object.Object.TheVariants.{Stream}
 use Rattle.abi_calls.specs.declared.reply.Reply.{Reply}
-use Rattle.abi_calls.specs.declared.reply.Reply.TheVariants.{Done, Handle, Bytes, Count, Length, BadHandle, NotFound, NoAccess, TooBig}
+use Rattle.abi_calls.specs.declared.reply.Reply.TheVariants.{Handle, Bytes, Count, BadHandle, NoAccess, TooBig}
 use Rattle.abi_calls.specs.Objects.{Object, Objects, object_at, with_object, IsFresh}
 use Rattle.abi_calls.specs.World.{World, Contents, Told, Tells, world_of, on_contents, some_contents}
-use Rattle.abi_calls.specs.Streams.{stream_of, file_open_row, open_found, open_answer, stream_open_row, read_row, stream_read_row, write_row, stream_write_row, length_row, stream_length_row, set_length_row, stream_set_length_row}
+use Rattle.abi_calls.specs.Streams.{stream_of, stream_open_row, read_row, stream_read_row, write_row, stream_write_row, stream_length_row, stream_set_length_row}
 use Rattle.abi_calls.specs.Abi.{Abi, Answers, answer, is_outside, is_file}
 use Rattle.abi_calls.specs.Failing.{IsPartWritten, IsPartTaken, Leaves, with_text, without_front}
 use Rattle.abi_calls.specs.Failing.Leaves.{Nothing, Part}
-use Rattle.abi_calls.specs.Sound.{is_sound_name}
+use Rattle.host_files.specs.Users.{Users}
+use Rattle.host_files.specs.Rows.{FollowsRow, file_call_row, may_make_file}
 use Rattle.host_objects.specs.Rows.{Row}
 use Rattle.host_objects.proofs.Rows.{row_in_world}
 use Rattle.host_monitor.specs.Answers.{IsAnswered}
 use Rattle.host_monitor.specs.Answers.IsAnswered.{By}
-use Rattle.host_monitor.specs.Edges.{FindsLength, ReadsFile, TakesAsked}
+use Rattle.host_monitor.specs.Counted.{CountsUsers, file_at, file_of_call, opened_name, keeps_handles}
+use Rattle.host_monitor.specs.Edges.{TakesAsked}
+use Rattle.host_monitor.proofs.FileRows.{file_answers, leaves_answered, same_left}
+use Rattle.host_monitor.proofs.OpenHandles.{CountsUsers-same, same_fresh}
 use Rattle.host_monitor.proofs.Pieces.{with_text-nothing, without_front-nothing}
-use Rattle.host_monitor.proofs.Contents.{tells_or, Tells-some_contents, StaysTold-same, tells_with_text, is_some-with_text, tells_without_front, is_some-without_front, take-asked, known_read, known_length, Tells-known}
+use Rattle.host_monitor.proofs.Contents.{tells_or, Tells-some_contents, StaysTold-same, tells_with_text, is_some-with_text, tells_without_front, is_some-without_front, take-asked}
 
 -- Contents that are as told stay, and the call is answered.
 answered_same : {o o' : Objects} {told told' : Told} {call : Call} {reply : Reply} (x : Contents) → Tells told x → told' ≡ told → Abi (world_of o x) call reply (world_of o' x) → IsAnswered o told call reply o' told'
@@ -83,16 +85,6 @@ read_answer : (w : World) (stream offset count : ℕ) (reply : Reply) (name : St
     → answer w (StreamRead stream offset count) reply ≡ on_contents w (read_row w.contents offset count name)
 read_answer w stream offset count reply name is small =
     ap (stream_read_row w offset count reply) (stream_at (object_at w.objects stream) is) ∙ cond-false _ _ _ (le-ltb MOST_BYTES count small)
-
-pub read_file : {o : Objects} {told told' : Told} {stream offset count : ℕ} {file bytes : List ℕ} → stream_of (object_at o stream) ≡ Some (File file)
-    → count ≤ MOST_BYTES → ReadsFile told.files file offset count bytes → told' ≡ told → IsAnswered o told (StreamRead stream offset count) (Bytes bytes) o told'
-read_file {o} {told} {told'} {stream} {offset} {count} {file} {bytes} is small reads e =
-    let k = known_read reads in
-    let x : Contents = record (some_contents told) { files = k.files } in
-    answered_same x (Tells-known told k) e (record {
-      choice = tt;
-      row = read_answer (world_of o x) stream offset count (Bytes bytes) (File file) is small ∙ ap (λ b. (Bytes b, world_of o x)) k.fact;
-    })
 
 input_answers : (o : Objects) (told : Told) (stream offset count : ℕ) (input : List ℕ) → IfSome told.input (λ x. x ≡ input) → stream_of (object_at o stream) ≡ Some ConIn → count ≤ MOST_BYTES
     → Answers o told (StreamRead stream offset count) (Bytes (take count input)) o (record told { input = without_front told.input count })
@@ -185,164 +177,72 @@ write_errors {o} {told} {told'} {stream} {offset} {bytes} is small e = By (subst
 pub is_file-stream : (x : Option Object) {file : List ℕ} → stream_of x ≡ Some (File file) → is_file x ≡ true
 is_file-stream x is = ap is_file (stream_at x is)
 
--- ---- StreamLength
-pub length_bad : {o : Objects} {told told' : Told} {stream : ℕ} → stream_of (object_at o stream) ≡ None → told' ≡ told → IsAnswered o told (StreamLength stream) BadHandle o told'
-length_bad {o} {told} {told'} {stream} none e =
+-- ---- StreamLength and StreamSetLength
+console_measured_at : (w : World) (x : Option Object) → is_some (stream_of x) ≡ true → is_file x ≡ false → stream_length_row w x ≡ (NoAccess, w)
+console_measured_at w (Some (Stream (File name))) there other = absurd (cc)
+console_measured_at w (Some (Stream _)) there other = refl
+console_measured_at w _ there other = absurd (cc)
+
+pub length_bad : {o : Objects} {stream : ℕ} (told : Told) → stream_of (object_at o stream) ≡ None → IsAnswered o told (StreamLength stream) BadHandle o told
+length_bad {o} {stream} told none =
     let x = some_contents told in
-    answered_same x (Tells-some_contents told) e (record { choice = tt; row = none_measured_at (world_of o x) (object_at o stream) none })
+    answered_same x (Tells-some_contents told) refl (record { choice = tt; row = none_measured_at (world_of o x) (object_at o stream) none })
 
-length_or : (o : Option (List ℕ)) → length (unwrap_or o []) ≡ unwrap_or (option_map length o) 0
-length_or None = refl
-length_or (Some bytes) = refl
-
-pub length_of_file : {o : Objects} {told told' : Told} {stream : ℕ} {file : List ℕ} {size : Option ℕ} → stream_of (object_at o stream) ≡ Some (File file)
-    → FindsLength told.files file size → told' ≡ told → IsAnswered o told (StreamLength stream) (Length (unwrap_or size 0)) o told'
-length_of_file {o} {told} {told'} {stream} {file} {size} is found e =
-    let k = known_length found in
-    let x : Contents = record (some_contents told) { files = k.files } in
-    answered_same x (Tells-known told k) e (record {
-      choice = tt;
-      row = ap (stream_length_row (world_of o x)) (stream_at (object_at o stream) is)
-          ∙ ap (λ n. (Length n, world_of o x)) (length_or (file_of k.files file) ∙ ap (λ s. unwrap_or s 0) k.fact);
-    })
-
--- The console has no length.
-length_of_console : {o : Objects} {told told' : Told} {stream : ℕ} (name : StreamName) → stream_of (object_at o stream) ≡ Some name → ((x : Contents) → length_row x name ≡ (NoAccess, x)) → told' ≡ told
-    → IsAnswered o told (StreamLength stream) NoAccess o told'
-length_of_console {o} {told} {told'} {stream} name is none e =
+pub length_of_console : {o : Objects} {stream : ℕ} (told : Told) → is_some (stream_of (object_at o stream)) ≡ true → is_file (object_at o stream) ≡ false → IsAnswered o told (StreamLength stream) NoAccess o told
+length_of_console {o} {stream} told there other =
     let x = some_contents told in
-    answered_same x (Tells-some_contents told) e (record {
-      choice = tt;
-      row = ap (stream_length_row (world_of o x)) (stream_at (object_at o stream) is) ∙ ap (on_contents (world_of o x)) (none x);
-    })
+    answered_same x (Tells-some_contents told) refl (record { choice = tt; row = console_measured_at (world_of o x) (object_at o stream) there other })
 
-pub length_of_input : {o : Objects} {told told' : Told} {stream : ℕ} → stream_of (object_at o stream) ≡ Some ConIn → told' ≡ told → IsAnswered o told (StreamLength stream) NoAccess o told'
-length_of_input {o} {told} {told'} {stream} is e = length_of_console ConIn is (λ x. refl) e
-
-pub length_of_output : {o : Objects} {told told' : Told} {stream : ℕ} → stream_of (object_at o stream) ≡ Some ConOut → told' ≡ told → IsAnswered o told (StreamLength stream) NoAccess o told'
-length_of_output {o} {told} {told'} {stream} is e = length_of_console ConOut is (λ x. refl) e
-
-pub length_of_errors : {o : Objects} {told told' : Told} {stream : ℕ} → stream_of (object_at o stream) ≡ Some ConErr → told' ≡ told → IsAnswered o told (StreamLength stream) NoAccess o told'
-length_of_errors {o} {told} {told'} {stream} is e = length_of_console ConErr is (λ x. refl) e
-
--- ---- StreamSetLength
 none_resized_at : (w : World) (x : Option Object) (size : ℕ) → stream_of x ≡ None → stream_set_length_row w size x ≡ (BadHandle, w)
 none_resized_at w (Some (Stream name)) size none = absurd (cc)
 none_resized_at w _ size none = refl
 
-pub resize_bad : {o : Objects} {told told' : Told} {stream size : ℕ} → stream_of (object_at o stream) ≡ None → told' ≡ told → IsAnswered o told (StreamSetLength stream size) BadHandle o told'
-resize_bad {o} {told} {told'} {stream} {size} none e =
+console_resized_at : (w : World) (x : Option Object) (size : ℕ) → is_some (stream_of x) ≡ true → is_file x ≡ false → stream_set_length_row w size x ≡ (NoAccess, w)
+console_resized_at w (Some (Stream (File name))) size there other = absurd (cc)
+console_resized_at w (Some (Stream _)) size there other = refl
+console_resized_at w _ size there other = absurd (cc)
+
+pub resize_bad : {o : Objects} {stream size : ℕ} (told : Told) → stream_of (object_at o stream) ≡ None → IsAnswered o told (StreamSetLength stream size) BadHandle o told
+resize_bad {o} {stream} {size} told none =
     let x = some_contents told in
-    answered_same x (Tells-some_contents told) e (record { choice = tt; row = none_resized_at (world_of o x) (object_at o stream) size none })
+    answered_same x (Tells-some_contents told) refl (record { choice = tt; row = none_resized_at (world_of o x) (object_at o stream) size none })
 
--- The length of the console can't be set.
-resize_of_console : {o : Objects} {told told' : Told} {stream size : ℕ} (name : StreamName) → stream_of (object_at o stream) ≡ Some name → ((x : Contents) → set_length_row x size name ≡ (NoAccess, x)) → told' ≡ told
-    → IsAnswered o told (StreamSetLength stream size) NoAccess o told'
-resize_of_console {o} {told} {told'} {stream} {size} name is none e =
+pub resize_of_console : {o : Objects} {stream size : ℕ} (told : Told) → is_some (stream_of (object_at o stream)) ≡ true → is_file (object_at o stream) ≡ false → IsAnswered o told (StreamSetLength stream size) NoAccess o told
+resize_of_console {o} {stream} {size} told there other =
     let x = some_contents told in
-    answered_same x (Tells-some_contents told) e (record {
-      choice = tt;
-      row = ap (stream_set_length_row (world_of o x) size) (stream_at (object_at o stream) is) ∙ ap (on_contents (world_of o x)) (none x);
-    })
-
-pub resize_of_input : {o : Objects} {told told' : Told} {stream size : ℕ} → stream_of (object_at o stream) ≡ Some ConIn → told' ≡ told → IsAnswered o told (StreamSetLength stream size) NoAccess o told'
-resize_of_input {o} {told} {told'} {stream} {size} is e = resize_of_console ConIn is (λ x. refl) e
-
-pub resize_of_output : {o : Objects} {told told' : Told} {stream size : ℕ} → stream_of (object_at o stream) ≡ Some ConOut → told' ≡ told → IsAnswered o told (StreamSetLength stream size) NoAccess o told'
-resize_of_output {o} {told} {told'} {stream} {size} is e = resize_of_console ConOut is (λ x. refl) e
-
-pub resize_of_errors : {o : Objects} {told told' : Told} {stream size : ℕ} → stream_of (object_at o stream) ≡ Some ConErr → told' ≡ told → IsAnswered o told (StreamSetLength stream size) NoAccess o told'
-resize_of_errors {o} {told} {told'} {stream} {size} is e = resize_of_console ConErr is (λ x. refl) e
+    answered_same x (Tells-some_contents told) refl (record { choice = tt; row = console_resized_at (world_of o x) (object_at o stream) size there other })
 
 -- ---- StreamOpen
--- What can be opened gets a new number.
-answered_opened : {o o' : Objects} {told told' : Told} {name : StreamName} {number : ℕ} (x : Contents) → Tells told x
-    → stream_open_row (world_of o x) name false false number ≡ (Handle number, world_of (with_object o number (Stream name)) x) → IsFresh o number → o' ≡ with_object o number (Stream name) → told' ≡ told
-    → IsAnswered o told (StreamOpen name false false) (Handle number) o' told'
-answered_opened {o} {o'} {told} {told'} {name} {number} x tells row fresh now e =
-    subst (λ p. IsAnswered o told (StreamOpen name false false) (Handle number) p told') (sym now) (answered_same x tells e (record { choice = fresh; row = row }))
-
 -- Two functions of a name that agree at the name that it is.
 at_name : {X : Type 0} {name kind : StreamName} → name ≡ kind → (f g : StreamName → X) → f kind ≡ g kind → f name ≡ g name
 at_name is f g same = ap f is ∙ same ∙ ap g (sym is)
 
-pub open_console : {o o' : Objects} {told told' : Told} {name : StreamName} {number : ℕ} → (name ≡ ConIn) ⊎ ((name ≡ ConOut) ⊎ (name ≡ ConErr)) → IsFresh o number → o' ≡ with_object o number (Stream name)
-    → told' ≡ told → IsAnswered o told (StreamOpen name false false) (Handle number) o' told'
-open_console {o} {o'} {told} {told'} {name} {number} kind fresh now e =
+-- What opens an end of the console gets a new number.
+answer-console : (w : World) (call : Call) (name : StreamName) (h : ℕ) → opened_name call ≡ Some name → (name ≡ ConIn) ⊎ ((name ≡ ConOut) ⊎ (name ≡ ConErr)) → answer w call (Handle h) ≡ (Handle h, world_of (with_object w.objects h (Stream name)) w.contents)
+answer-console w (StreamOpen stream create exclusive) name h opens kind =
+    let new : StreamName → Reply × World = λ n. (Handle h, world_of (with_object w.objects h (Stream n)) w.contents) in
+    let row : StreamName → Reply × World = λ n. stream_open_row w n create exclusive h in
+    ap (λ o. row (unwrap_or o stream)) opens ∙ elim kind as (λ _. row name ≡ new name) [
+      | inl is ↦ at_name is row new refl
+      | inr rest ↦ elim rest as (λ _. row name ≡ new name) [ inl is ↦ at_name is row new refl | inr is ↦ at_name is row new refl ]
+    ]
+answer-console w _ name h opens kind = absurd (cc)
+
+pub open_console : {o o' : Objects} {told told' : Told} {call : Call} {name : StreamName} {h : ℕ} → opened_name call ≡ Some name → (name ≡ ConIn) ⊎ ((name ≡ ConOut) ⊎ (name ≡ ConErr)) → IsFresh o h → o' ≡ with_object o h (Stream name)
+    → told' ≡ told → IsAnswered o told call (Handle h) o' told'
+open_console {o} {o'} {told} {told'} {call} {name} {h} opens kind fresh now e =
     let x = some_contents told in
-    let w : World = world_of o x in
-    let new : StreamName → Reply × World = λ n. (Handle number, world_of (with_object o number (Stream n)) x) in
-    answered_opened x (Tells-some_contents told) (elim kind as (λ _. stream_open_row w name false false number ≡ new name) [
-      | inl is ↦ at_name is (λ n. stream_open_row w n false false number) new refl
-      | inr rest ↦ elim rest as (λ _. stream_open_row w name false false number ≡ new name) [
-        | inl is ↦ at_name is (λ n. stream_open_row w n false false number) new refl
-        | inr is ↦ at_name is (λ n. stream_open_row w n false false number) new refl
-      ]
-    ]) fresh now e
+    subst (λ p. IsAnswered o told call (Handle h) p told') (sym now)
+    (answered_same x (Tells-some_contents told) e (record { choice = fresh; row = answer-console (world_of o x) call name h opens kind }))
 
--- The console's names are sound.
-pub sound_console : {name : StreamName} → (name ≡ ConIn) ⊎ ((name ≡ ConOut) ⊎ (name ≡ ConErr)) → is_sound_name name ≡ true
-sound_console {name} kind = elim kind as (λ _. is_sound_name name ≡ true) [
-  | inl is ↦ ap is_sound_name is
-  | inr rest ↦ elim rest as (λ _. is_sound_name name ≡ true) [ inl is ↦ ap is_sound_name is | inr is ↦ ap is_sound_name is ]
-]
-
-pos_length : (file : List ℕ) → file ≢ [] → 1 ≤ length file
-pos_length [] some = absurd (some refl)
-pos_length (b ∷ rest) some = omega arith
-
-pub sound_file : (file : List ℕ) → length file ≤ LONGEST_NAME → file ≢ [] → is_sound_name (File file) ≡ true
-sound_file file short some =
-    ap (λ b. b && nat_le (length file) LONGEST_NAME) (le-leb 1 (length file) (pos_length file some)) ∙ le-leb (length file) LONGEST_NAME short
-
--- A file name of 1 to 80 bytes gets as far as the file.
-file_open_row-name : (files : Files) (file : List ℕ) → length file ≤ LONGEST_NAME → file ≢ [] → file_open_row files file false false ≡ open_found files file false false (file_of files file)
-file_open_row-name files file short some =
-    cond-false _ _ _ (le-ltb LONGEST_NAME (length file) short) ∙ cond-false _ _ _ (ne_eqb (length file) 0 (λ e. some (nil_from_length file e)))
-
--- The answer to a call that opens a file.
-abbrev open_answer_of : (w : World) (file : List ℕ) (number : ℕ) → Reply × Files → Reply × World
-open_answer_of w file number row = open_answer w (File file) number row.1 row.0
-
-length_some : (o : Option (List ℕ)) (size : Option ℕ) (n : ℕ) → option_map length o ≡ size → size ≡ Some n → (bytes : List ℕ) × (o ≡ Some bytes)
-length_some None size n e there = absurd (cc)
-length_some (Some bytes) size n e there = (bytes, refl)
-
-length_none : (o : Option (List ℕ)) (size : Option ℕ) → option_map length o ≡ size → size ≡ None → o ≡ None
-length_none None size e gone = refl
-length_none (Some bytes) size e gone = absurd (cc)
-
-pub open_file : {o o' : Objects} {told told' : Told} {file : List ℕ} {size : Option ℕ} {n number : ℕ} → length file ≤ LONGEST_NAME → file ≢ [] → FindsLength told.files file size → size ≡ Some n
-    → IsFresh o number → o' ≡ with_object o number (Stream (File file)) → told' ≡ told → IsAnswered o told (StreamOpen (File file) false false) (Handle number) o' told'
-open_file {o} {o'} {told} {told'} {file} {size} {n} {number} short some found there fresh now e =
-    let k = known_length found in
-    let x : Contents = record (some_contents told) { files = k.files } in
-    let bytes : (bytes : List ℕ) × (file_of k.files file ≡ Some bytes) = length_some (file_of k.files file) size n k.fact there in
-    answered_opened x (Tells-known told k)
-    (ap (open_answer_of (world_of o x) file number) (file_open_row-name k.files file short some ∙ ap (open_found k.files file false false) bytes.1)) fresh now e
-
-pub open_absent : {o : Objects} {told told' : Told} {file : List ℕ} {size : Option ℕ} → length file ≤ LONGEST_NAME → file ≢ [] → FindsLength told.files file size → size ≡ None → told' ≡ told
-    → IsAnswered o told (StreamOpen (File file) false false) NotFound o told'
-open_absent {o} {told} {told'} {file} {size} short some found gone e =
-    let k = known_length found in
-    let x : Contents = record (some_contents told) { files = k.files } in
-    answered_same x (Tells-known told k) e (record {
-      choice = tt;
-      row = ap (open_answer_of (world_of o x) file 0) (file_open_row-name k.files file short some ∙ ap (open_found k.files file false false) (length_none (file_of k.files file) size k.fact gone));
-    })
-
-pub open_too_big : {o : Objects} {told told' : Told} {file : List ℕ} → LONGEST_NAME < length file → told' ≡ told → IsAnswered o told (StreamOpen (File file) false false) TooBig o told'
-open_too_big {o} {told} {told'} {file} long e =
-    let x = some_contents told in
-    answered_same x (Tells-some_contents told) e (record {
-      choice = tt;
-      row = ap (open_answer_of (world_of o x) file 0) (cond-true _ _ _ (lt-ltb LONGEST_NAME (length file) long));
-    })
-
-pub open_empty : {o : Objects} {told told' : Told} {file : List ℕ} → file ≡ [] → told' ≡ told → IsAnswered o told (StreamOpen (File file) false false) NotFound o told'
-open_empty {o} {told} {told'} {file} none e =
-    let x = some_contents told in
-    answered_same x (Tells-some_contents told) e (record { choice = tt; row = ap (λ f. stream_open_row (world_of o x) (File f) false false 0) none })
+pub CountsUsers-console : {o o' : Objects} {users users' : Users} {name : StreamName} {h : ℕ} → CountsUsers o users → (name ≡ ConIn) ⊎ ((name ≡ ConOut) ⊎ (name ≡ ConErr)) → IsFresh o h → o' ≡ with_object o h (Stream name) → users' ≡ users
+    → CountsUsers o' users'
+CountsUsers-console {o} {o'} {users} {users'} {name} {h} c kind fresh now e =
+    let none : file_at (Some (Stream name)) ≡ None = elim kind as (λ _. file_at (Some (Stream name)) ≡ None) [
+      | inl is ↦ ap (λ n. file_at (Some (Stream n))) is
+      | inr rest ↦ elim rest as (λ _. file_at (Some (Stream name)) ≡ None) [ inl is ↦ ap (λ n. file_at (Some (Stream n))) is | inr is ↦ ap (λ n. file_at (Some (Stream n))) is ]
+    ] in
+    subst (λ p. CountsUsers p users') (sym now) (subst (CountsUsers (with_object o h (Stream name))) (sym e) (CountsUsers-same c (same_fresh o h (Stream name) fresh none)))
 
 -- ---- what a failed call leaves
 pub leaves_same : {o : Objects} {call : Call} {told told' : Told} → told' ≡ told → Leaves o call told told'
@@ -410,16 +310,34 @@ leaves_input {o} {told} {told'} {stream} {offset} {count} is small part e = Part
   };
 })
 
-pub ruleset opened = (open_console, sound_console)
+-- ---- Calls on a file after which the same handles are open.
+pub file_answered : {E : Type 0} {o : Objects} (told told' : Told) (users : Users) (call : Call) (name : List ℕ) (r : Result Reply E) → CountsUsers o users → file_of_call o call ≡ Some name → keeps_handles call ≡ true
+    → told' ≡ record told { files = told'.files } → IfOk r (λ reply. FollowsRow (file_call_row users call name) told.files reply told'.files) → IfOk r (λ reply. IsAnswered o told call reply o told')
+file_answered {E} {o} told told' users call name (Ok reply) c at keeps e row = By (file_answers c at keeps row e)
+file_answered {E} {o} told told' users call name (Err error) c at keeps e row = tt
 
-pub ruleset opened_file = (open_file, open_absent, open_too_big, open_empty)
+makes_no_file : (call : Call) → keeps_handles call ≡ true → may_make_file call ≡ false
+makes_no_file (StreamOpen name create exclusive) keeps = absurd (cc)
+makes_no_file _ keeps = refl
 
-pub ruleset reads = (read_bad, read_too_big, read_file, read_input, read_output, read_errors, leaves_same, leaves_input)
+pub file_left : {E : Type 0} {o : Objects} (told told' : Told) (users : Users) (call : Call) (name : List ℕ) (r : Result Reply E) → CountsUsers o users → file_of_call o call ≡ Some name → keeps_handles call ≡ true
+    → told' ≡ record told { files = told'.files } → IfOk r (λ reply. FollowsRow (file_call_row users call name) told.files reply told'.files) → OnErr r (may_make_file call ≡ false → told'.files ≡ told.files) → Leaves o call told told'
+file_left {E} {o} told told' users call name (Ok reply) c at keeps e row same = leaves_answered (file_answers c at keeps row e) e
+file_left {E} {o} told told' users call name (Err error) c at keeps e row same = Nothing (same_left (same (makes_no_file call keeps)) e)
+
+-- What is no file is an end of the console.
+pub console_name : (name : StreamName) → ((file : List ℕ) → name ≡ File file → ⊥) → (name ≡ ConIn) ⊎ ((name ≡ ConOut) ⊎ (name ≡ ConErr))
+console_name (File file) other = absurd (other file refl)
+console_name ConIn other = inl refl
+console_name ConOut other = inr (inl refl)
+console_name ConErr other = inr (inr refl)
+
+pub ruleset reads = (read_bad, read_too_big, read_input, read_output, read_errors, is_file-stream, leaves_same, leaves_input)
 
 pub ruleset writes = (write_bad, write_too_big, write_no_access, write_output, write_errors, is_file-stream, leaves_same, leaves_output, leaves_errors)
 
-pub ruleset measures = (length_bad, length_of_file, length_of_input, length_of_output, length_of_errors, leaves_same)
+pub ruleset measures = (length_bad, length_of_console)
 
-pub ruleset resizes = (resize_bad, resize_of_input, resize_of_output, resize_of_errors, is_file-stream, leaves_same)
+pub ruleset resizes = (resize_bad, resize_of_console)
 
 pub ruleset rows = (row_answered, leaves_same)

@@ -1,7 +1,7 @@
 -- What the calls on the outside give, and what they leave of the contents.
-use Rattle.std.specs.Prelude.{◌≡◌, ℕ, ◌+◌, ◌-◌, ◌^◌, ◌≤◌, min, List, length, take, drop, IfSome}
+use Rattle.std.specs.Prelude.{◌≡◌, ℕ, ◌+◌, ◌-◌, ◌^◌, ◌≤◌, min, List, length, take, IfSome}
 use Rattle.std.specs.declared.option.Option.{Option}
-use Rattle.bas_edge.specs.Files.{Files, file_bytes, file_length}
+use Rattle.bas_edge.specs.Files.{Files}
 use Rattle.abi_calls.specs.World.{Told}
 use Rattle.abi_calls.specs.Failing.{without_front}
 
@@ -11,16 +11,6 @@ pub record TakesAsked (left : Option (List ℕ)) (count : ℕ) (bytes : List ℕ
   pub within : length bytes ≤ count
   pub front : IfSome left (λ old. bytes ≡ take count old)
   pub rest : left' ≡ without_front left count
-
--- The length of a file, where the files are told; nothing where no file has the name.
-pub record FindsLength (files : Option Files) (name : List ℕ) (size : Option ℕ) : Type 0 where
-  pub found : IfSome files (λ told. size ≡ file_length told name)
-
--- At most so many bytes, those of the file from the offset on where the files are told.
-pub record ReadsFile (files : Option Files) (name : List ℕ) (offset count : ℕ)
-    (bytes : List ℕ) : Type 0 where
-  pub within : length bytes ≤ count
-  pub read : IfSome files (λ told. bytes ≡ take count (drop offset (file_bytes told name)))
 
 -- The outside as it is told: the files, the input that is left, the output and the errors.
 abbrev pub told_of : Option Files → Option (List ℕ) → Option (List ℕ) → Option (List ℕ) → Told

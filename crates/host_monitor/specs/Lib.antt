@@ -1,3 +1,4 @@
 pub mod Edges
 pub mod Answers
+pub mod Counted
 pub mod Monitor

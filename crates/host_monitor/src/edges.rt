@@ -1,9 +1,13 @@
-ghost use Rattle.std.specs.Prelude.{◌≡◌, ℕ, IfOk, OnOk, IsErrOf};
+ghost use Rattle.std.specs.Prelude.{◌≡◌, ℕ, true, false, IfOk, OnOk, OnErr, IsErrOf};
 ghost use Rattle.bas_edge.specs.Faults.{HasCause};
 ghost use Rattle.abi_calls.specs.World.{Told};
+ghost use Rattle.abi_calls.specs.Abi.{takes_memory};
 ghost use Rattle.abi_calls.specs.Failing.{IsPartWritten, IsPartTaken, with_text, without_front};
-ghost use Rattle.host_monitor.specs.Edges.{TakesAsked, FindsLength, ReadsFile};
+ghost use Rattle.host_files.specs.Users.{Users, is_used};
+ghost use Rattle.host_files.specs.Rows.{FollowsRow, IsOnFile, LeavesFiles, file_call_row, is_by_name, may_make_file, users_after};
+ghost use Rattle.host_monitor.specs.Edges.{TakesAsked};
 
+use abi_calls::{Call, HostError, Reply};
 use bas_edge::EdgeError;
 use bas_items::Items;
 use std::alloc::Global;
@@ -12,6 +16,9 @@ use std::alloc::Global;
 pub(crate) trait Edges {
     /// The contents, each part as far as it is told.
     ghost told: { Self → Told };
+
+    /// How many users each file has.
+    ghost users: { Self → Users };
 
     /// How many faults there were, held at the greatest `u64`.
     ghost fault_count: { Self → ℕ };
@@ -23,6 +30,7 @@ pub(crate) trait Edges {
         ensures part { IsPartWritten (told self.old).output (told self.new).output
             (with_text (told self.old).output bytes.now) }
         ensures rest { told self.new ≡ record (told self.old) { output = (told self.new).output } }
+        ensures users { users self.new ≡ users self.old }
         ensures cause { HasCause EdgeError.Failed
             (fault_count self.old) (fault_count self.new) result }
         ensures unfaulted { OnOk result (fault_count self.new ≡ fault_count self.old) }
@@ -36,6 +44,7 @@ pub(crate) trait Edges {
         ensures part { IsPartWritten (told self.old).errors (told self.new).errors
             (with_text (told self.old).errors bytes.now) }
         ensures rest { told self.new ≡ record (told self.old) { errors = (told self.new).errors } }
+        ensures users { users self.new ≡ users self.old }
         ensures cause { HasCause EdgeError.Failed
             (fault_count self.old) (fault_count self.new) result }
         ensures unfaulted { OnOk result (fault_count self.new ≡ fault_count self.old) }
@@ -49,36 +58,34 @@ pub(crate) trait Edges {
         ensures part { IsPartTaken (told self.old).input (told self.new).input
             (without_front (told self.old).input count) }
         ensures rest { told self.new ≡ record (told self.old) { input = (told self.new).input } }
+        ensures users { users self.new ≡ users self.old }
         ensures cause { HasCause EdgeError.Failed
             (fault_count self.old) (fault_count self.new) result }
         ensures unfaulted { OnOk result (fault_count self.new ≡ fault_count self.old) }
         ensures want { IsErrOf result EdgeError.Memory
             → fault_count self.new ≡ fault_count self.old };
 
-    /// The length of a file in bytes; `None` where no file has the name.
-    fn file_length(&mut self, name: &[u8]) -> Result<Option<u64>, EdgeError>
-        ensures found { IfOk result (FindsLength (told self.old).files name.now) }
-        ensures same { told self.new ≡ told self.old }
-        ensures cause { HasCause EdgeError.Failed
+    /// Answers a call on the file `name`, and counts the file's users, as `Files::call` does.
+    fn call_file(&mut self, call: &Call, name: &[u8]) -> Result<Reply, HostError>
+        requires on_file { IsOnFile call.now name.now }
+        requires user { is_by_name call.now ≡ false → is_used (users self.old) name.now ≡ true }
+        ensures row { IfOk result (λ reply. FollowsRow
+            (file_call_row (users self.old) call.now name.now)
+            (told self.old).files reply (told self.new).files) }
+        ensures users { IfOk result (λ reply.
+            users self.new ≡ users_after (users self.old) call.now name.now reply) }
+        ensures left { OnErr result (LeavesFiles
+            (file_call_row (users self.old) call.now name.now)
+            (told self.old).files (told self.new).files) }
+        ensures same_files { OnErr result (may_make_file call.now ≡ false
+            → (told self.new).files ≡ (told self.old).files) }
+        ensures same_users { OnErr result (users self.new ≡ users self.old) }
+        ensures memory { OnErr result (takes_memory call.now ≡ true) }
+        ensures rest { told self.new ≡ record (told self.old) { files = (told self.new).files } }
+        ensures cause { HasCause HostError.Failed
             (fault_count self.old) (fault_count self.new) result }
         ensures unfaulted { OnOk result (fault_count self.new ≡ fault_count self.old) }
-        ensures want { IsErrOf result EdgeError.Memory
-            → fault_count self.new ≡ fault_count self.old };
-
-    /// Up to `count` bytes of a file from `offset` on; no bytes where no file has the name.
-    fn read_file(
-        &mut self,
-        alloc: Global,
-        name: &[u8],
-        offset: u64,
-        count: usize,
-    ) -> Result<Items<u8>, EdgeError>
-        ensures read { IfOk result (ReadsFile (told self.old).files name.now offset count) }
-        ensures same { told self.new ≡ told self.old }
-        ensures cause { HasCause EdgeError.Failed
-            (fault_count self.old) (fault_count self.new) result }
-        ensures unfaulted { OnOk result (fault_count self.new ≡ fault_count self.old) }
-        ensures want { IsErrOf result EdgeError.Memory
+        ensures want { IsErrOf result HostError.Memory
             → fault_count self.new ≡ fault_count self.old };
 
     /// How many faults there were.

@@ -2,6 +2,7 @@ ghost use Rattle.std.specs.Prelude.{◌≡◌, OnOk, OnErr};
 ghost use Rattle.abi_calls.specs.Abi.{journalled};
 ghost use Rattle.host_objects.specs.Objects.{objects_of};
 ghost use Rattle.host_monitor.specs.Edges.{told_of, sum_of};
+ghost use Rattle.host_monitor.specs.Counted.{CountsUsers};
 
 use crate::console::Console;
 use crate::edges::Edges;
@@ -10,6 +11,7 @@ use crate::serve::serve;
 use abi_calls::{Call, Crossing, Host, HostError, Reply, Turned};
 use bas_edge::{Memory, Sink, Source, Store};
 use bas_items::Items;
+use host_files::Files;
 use host_objects::{Numbers, Objects};
 use std::alloc::Global;
 
@@ -19,12 +21,13 @@ use std::alloc::Global;
 /// A read of the console's input takes until it has all that was asked or the input ends, and never takes
 /// again after the end.
 #[derive(Drop)]
-pub struct Monitor<I: Source, O, P, E, N: Numbers> {
+pub struct Monitor<I: Source, O, P, E: Store, N: Numbers> {
     alloc: Global,
     objects: Objects<N>,
     outside: Outside<I, O, P, E>,
     answered: u64,
     journal: Option<Items<Crossing>>,
+    ghost counted: { CountsUsers (objects_of objects) outside.files.users },
 }
 
 /// Adds an answered call to the journal, where it is kept. After an `Err` it is as before.
@@ -100,7 +103,7 @@ impl<I: Source + Drop, O: Sink + Drop, P: Sink + Drop, E: Store + Drop, N: Numbe
                 input: Console::new(input),
                 output,
                 errors,
-                store,
+                files: Files::new(alloc, store),
             },
             answered: 0,
             journal,
@@ -132,7 +135,7 @@ impl<I: Source + Drop, O: Sink + Drop, P: Sink + Drop, E: Store + Drop, N: Numbe
     pub fn store(&self) -> &E
         ensures { result.now ≡ store_of self.now }
     {
-        &self.outside.store
+        self.outside.files.store()
     }
 
     /// The answered calls, where a journal is kept.
@@ -150,7 +153,7 @@ impl<I: Source + Drop, O: Sink + Drop, P: Sink + Drop, E: Store + Drop, N: Numbe
     for Monitor<I, O, P, E, N> {
     ghost objects = { λ m. objects_of m.objects };
 
-    ghost told = { λ m. told_of (E.files m.outside.store) (I.left m.outside.input)
+    ghost told = { λ m. told_of (E.files m.outside.files.store) (I.left m.outside.input)
         (O.given m.outside.output) (P.given m.outside.errors) };
 
     ghost journal = { λ m. m.journal };
@@ -159,7 +162,7 @@ impl<I: Source + Drop, O: Sink + Drop, P: Sink + Drop, E: Store + Drop, N: Numbe
 
     ghost fault_count = { λ m. sum_of (I.fault_count m.outside.input)
         (O.fault_count m.outside.output) (P.fault_count m.outside.errors)
-        (E.fault_count m.outside.store) };
+        (E.fault_count m.outside.files.store) };
 
     ghost sound = { λ m. m.objects.sound };
 

@@ -2,28 +2,31 @@ ghost use Rattle.host_monitor.specs.Edges.{told_of, sum_of};
 
 use crate::console::Console;
 use crate::edges::Edges;
-use crate::files::read_file;
 use crate::output::give_all;
+use abi_calls::{Call, HostError, Reply};
 use bas_edge::{EdgeError, Sink, Source, Store};
 use bas_items::Items;
+use host_files::Files;
 use std::alloc::Global;
 
-/// The four objects of the outside.
+/// The four objects of the outside, the store with the users of its files.
 #[derive(Drop)]
-pub(crate) struct Outside<I: Source, O, P, E> {
+pub(crate) struct Outside<I: Source, O, P, E: Store> {
     pub(crate) input: Console<I>,
     pub(crate) output: O,
     pub(crate) errors: P,
-    pub(crate) store: E,
+    pub(crate) files: Files<E>,
 }
 
 impl<I: Source, O: Sink, P: Sink, E: Store> Edges for Outside<I, O, P, E> {
     ghost told = { λ s.
-        told_of (E.files s.store) (I.left s.input) (O.given s.output) (P.given s.errors) };
+        told_of (E.files s.files.store) (I.left s.input) (O.given s.output) (P.given s.errors) };
+
+    ghost users = { λ s. s.files.users };
 
     ghost fault_count = { λ s.
         sum_of (I.fault_count s.input) (O.fault_count s.output)
-        (P.fault_count s.errors) (E.fault_count s.store) };
+        (P.fault_count s.errors) (E.fault_count s.files.store) };
 
     fn put_output(&mut self, bytes: &[u8]) -> Result<(), EdgeError> {
         give_all(&mut self.output, bytes)
@@ -37,18 +40,8 @@ impl<I: Source, O: Sink, P: Sink, E: Store> Edges for Outside<I, O, P, E> {
         self.input.take_all(alloc, count)
     }
 
-    fn file_length(&mut self, name: &[u8]) -> Result<Option<u64>, EdgeError> {
-        self.store.length(name)
-    }
-
-    fn read_file(
-        &mut self,
-        alloc: Global,
-        name: &[u8],
-        offset: u64,
-        count: usize,
-    ) -> Result<Items<u8>, EdgeError> {
-        read_file(alloc, &mut self.store, name, offset, count)
+    fn call_file(&mut self, call: &Call, name: &[u8]) -> Result<Reply, HostError> {
+        self.files.call(call, name)
     }
 
     fn faults(&self) -> u64 {
@@ -57,6 +50,6 @@ impl<I: Source, O: Sink, P: Sink, E: Store> Edges for Outside<I, O, P, E> {
             .faults()
             .saturating_add(self.output.faults())
             .saturating_add(self.errors.faults())
-            .saturating_add(self.store.faults())
+            .saturating_add(self.files.faults())
     }
 }

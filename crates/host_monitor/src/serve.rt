@@ -1,60 +1,95 @@
-ghost use Rattle.std.specs.Prelude.{◌≡◌, IfOk, OnOk, OnErr, IsErrOf};
+ghost use Rattle.std.specs.Prelude.{◌≡◌, None, true, IfOk, OnOk, OnErr, IsErrOf};
 ghost use Rattle.bas_edge.specs.Faults.{HasCause};
 ghost use Rattle.abi_calls.specs.Failing.{Leaves};
 ghost use Rattle.host_objects.specs.Objects.{objects_of};
 ghost use Rattle.host_monitor.specs.Answers.{IsAnswered};
-ghost use Rattle.host_monitor.specs.Answers as answers;
+ghost use Rattle.host_monitor.specs.Counted.{CountsUsers, file_of_call, keeps_handles};
 
 use crate::edges::Edges;
-use crate::streams::{open_stream, read_stream, set_stream_length, stream_length, write_stream};
-use abi_calls::{Call, Reply, StreamName};
-use bas_edge::EdgeError;
+use crate::files::{change_handles, file_of, open_stream};
+use crate::streams::{read_stream, set_stream_length, stream_length, write_stream};
+use abi_calls::{Call, HostError, Reply};
 use host_objects::{Numbers, Objects};
 use std::alloc::Global;
 
-/// Whether a call may change files.
-fn changes_files<N: Numbers + Drop>(objects: &Objects<N>, call: &Call) -> bool
-    ensures { result ≡ answers.changes_files (objects_of objects.now) call.now }
-{
-    match call {
-        Call::StreamOpen {
-            create,
-            exclusive,
-            ..
-        } => *create || *exclusive,
-        Call::StreamWrite { stream, .. } | Call::StreamSetLength { stream, .. } => {
-            matches!(objects.stream(*stream), Some(StreamName::File(_)))
-        }
-        Call::StreamDelete { .. } | Call::StreamRename { .. } => true,
-        _ => false,
-    }
-}
-
-/// Answers a call, from the objects alone or from the outside too. A call that may change files isn't answered
-/// yet: there is no memory for it.
-#[tactic(auto, using(crate::proofs::Rows::rows))]
+/// Answers a call, from the objects alone or from the outside too.
 pub(crate) fn serve<W: Edges, N: Numbers + Drop>(
     alloc: Global,
     objects: &mut Objects<N>,
     outside: &mut W,
     call: &Call,
-) -> Result<Reply, EdgeError>
+) -> Result<Reply, HostError>
+    requires counted { CountsUsers (objects_of objects.old) (W.users outside.old) }
     ensures row { IfOk result (λ reply. IsAnswered (objects_of objects.old) (W.told outside.old)
         call.now reply (objects_of objects.new) (W.told outside.new)) }
     ensures left { Leaves (objects_of objects.old) call.now
         (W.told outside.old) (W.told outside.new) }
     ensures same { OnErr result (objects_of objects.new ≡ objects_of objects.old) }
-    ensures cause { HasCause EdgeError.Failed
+    ensures counted { CountsUsers (objects_of objects.new) (W.users outside.new) }
+    ensures cause { HasCause HostError.Failed
         (W.fault_count outside.old) (W.fault_count outside.new) result }
     ensures unfaulted { OnOk result (W.fault_count outside.new ≡ W.fault_count outside.old) }
-    ensures want { IsErrOf result EdgeError.Memory
+    ensures want { IsErrOf result HostError.Memory
         → W.fault_count outside.new ≡ W.fault_count outside.old }
 {
-    if changes_files(objects, call) {
-        return Err(EdgeError::Memory);
-    }
     match call {
-        Call::StreamOpen { name, .. } => open_stream(objects, outside, name),
+        Call::StreamOpen { name, .. } => open_stream(objects, outside, call, name),
+        Call::Share { .. } | Call::Close { .. } => change_handles(objects, outside, call),
+        _ => answer(alloc, objects, outside, call),
+    }
+}
+
+/// Answers a call after which the same handles are open on each file.
+fn answer<W: Edges, N: Numbers + Drop>(
+    alloc: Global,
+    objects: &mut Objects<N>,
+    outside: &mut W,
+    call: &Call,
+) -> Result<Reply, HostError>
+    requires keeps { keeps_handles call.now ≡ true }
+    requires counted { CountsUsers (objects_of objects.old) (W.users outside.old) }
+    ensures row { IfOk result (λ reply. IsAnswered (objects_of objects.old) (W.told outside.old)
+        call.now reply (objects_of objects.new) (W.told outside.new)) }
+    ensures left { Leaves (objects_of objects.old) call.now
+        (W.told outside.old) (W.told outside.new) }
+    ensures same { OnErr result (objects_of objects.new ≡ objects_of objects.old) }
+    ensures counted { CountsUsers (objects_of objects.new) (W.users outside.new) }
+    ensures cause { HasCause HostError.Failed
+        (W.fault_count outside.old) (W.fault_count outside.new) result }
+    ensures unfaulted { OnOk result (W.fault_count outside.new ≡ W.fault_count outside.old) }
+    ensures want { IsErrOf result HostError.Memory
+        → W.fault_count outside.new ≡ W.fault_count outside.old }
+{
+    if let Some(name) = file_of(objects, call) {
+        return outside.call_file(call, name);
+    }
+    answer_aside(alloc, objects, outside, call)
+}
+
+/// Answers a call that is on no file, and after which the same handles are open on each file.
+#[tactic(auto, using(crate::proofs::Rows::rows))]
+fn answer_aside<W: Edges, N: Numbers + Drop>(
+    alloc: Global,
+    objects: &mut Objects<N>,
+    outside: &mut W,
+    call: &Call,
+) -> Result<Reply, HostError>
+    requires keeps { keeps_handles call.now ≡ true }
+    requires aside { file_of_call (objects_of objects.old) call.now ≡ None }
+    requires counted { CountsUsers (objects_of objects.old) (W.users outside.old) }
+    ensures row { IfOk result (λ reply. IsAnswered (objects_of objects.old) (W.told outside.old)
+        call.now reply (objects_of objects.new) (W.told outside.new)) }
+    ensures left { Leaves (objects_of objects.old) call.now
+        (W.told outside.old) (W.told outside.new) }
+    ensures same { OnErr result (objects_of objects.new ≡ objects_of objects.old) }
+    ensures counted { CountsUsers (objects_of objects.new) (W.users outside.new) }
+    ensures cause { HasCause HostError.Failed
+        (W.fault_count outside.old) (W.fault_count outside.new) result }
+    ensures unfaulted { OnOk result (W.fault_count outside.new ≡ W.fault_count outside.old) }
+    ensures want { IsErrOf result HostError.Memory
+        → W.fault_count outside.new ≡ W.fault_count outside.old }
+{
+    match call {
         Call::StreamRead {
             stream,
             offset,
@@ -65,11 +100,13 @@ pub(crate) fn serve<W: Edges, N: Numbers + Drop>(
             offset,
             bytes,
         } => write_stream(objects, outside, *stream, *offset, bytes.as_slice()),
-        Call::StreamLength { stream } => stream_length(objects, outside, *stream),
+        Call::StreamLength { stream } => Ok(stream_length(objects, *stream)),
         Call::StreamSetLength { stream, length } => {
-            set_stream_length(objects, outside, *stream, *length)
+            Ok(set_stream_length(objects, *stream, *length))
         }
-        Call::StreamDelete { .. } | Call::StreamRename { .. } => unreachable!(),
+        Call::StreamOpen { .. } | Call::StreamDelete { .. } | Call::StreamRename { .. } => {
+            unreachable!()
+        }
         _ => Ok(objects.call(call)?),
     }
 }

@@ -91,27 +91,6 @@ len-remove_thread m p t is = let there = thread_there p (get m t) is in len-remo
 pub record IsLeft (live : Live) (p : ℕ) (rest : List ℕ) : Type 0 where
   pub among : (q : ℕ) → is_thread_of p (get {R = nat_cmp} live q) ≡ true → list_any (λ k. k == q) rest ≡ true
 
-pub is_left_first : (live : Live) (p : ℕ) (rest : List ℕ) → ((q : ℕ) → is_some (get {R = nat_cmp} live q) ≡ list_any (λ k. k == q) rest) → IsLeft live p rest
-is_left_first live p rest has = record { among = λ q is. sym (has q) ∙ ap is_some (thread_there p (get live q) is).1 }
-
-pub is_left_next : (live : Live) (p x : ℕ) (rest rest' : List ℕ) → IsLeft live p rest → rest ≡ x ∷ rest' → is_thread_of p (get {R = nat_cmp} live x) ≡ false → IsLeft live p rest'
-is_left_next live p x rest rest' left e other = record {
-  among = λ q is.
-      let either : ((x == q) || list_any (λ k. k == q) rest') ≡ true = sym (ap (list_any (λ k. k == q)) e) ∙ left.among q is in
-      elim (x == q) as (λ b. (x == q) ≡ b → (b || list_any (λ k. k == q) rest') ≡ true → list_any (λ k. k == q) rest' ≡ true) [
-        | true ↦ λ same _. absurd (let thread : is_thread_of p (get live x) ≡ true = ap (λ k. is_thread_of p (get {R = nat_cmp} live k)) (eqb-true x q same) ∙ is in cc)
-        | false ↦ λ _ h. h
-      ] refl either;
-}
-
-pub is_left_end : (o : Objects) (p : ℕ) (rest : List ℕ) → IsLeft o.live p rest → rest ≡ [] → HasNoThread o p
-is_left_end o p rest left e = record {
-  none = λ h. elim (is_thread_of p (object_at o h)) as (λ b. is_thread_of p (object_at o h) ≡ b → b ≡ false) [
-    | true ↦ λ is. absurd (let among : list_any (λ k. k == h) rest ≡ true = left.among h is in let gone : list_any (λ k. k == h) rest ≡ false = ap (list_any (λ k. k == h)) e in cc)
-    | false ↦ λ _. refl
-  ] refl;
-}
-
 -- ---- the process itself stays
 stays_at : (p : ℕ) (x : Option Object) → is_some (running x) ≡ true → is_some (cond (not (is_thread_of p x)) x None) ≡ true
 stays_at p (Some (Process memory code)) runs = refl

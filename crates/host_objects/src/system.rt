@@ -12,6 +12,7 @@ use crate::numbers::Numbers;
 use abi_calls::{Object, Positions, Settings};
 use bas_items::Items;
 use guest_memory::Pages;
+use rv_core::Memo;
 use std::alloc::Global;
 use turn_sched::Schedule;
 
@@ -22,6 +23,8 @@ pub(crate) struct System<N: Numbers> {
     pub(crate) schedule: Schedule,
     pub(crate) positions: Positions,
     pub(crate) settings: Settings,
+    /// Words that threads met, with their instructions: made with the first process, and shared by all.
+    pub(crate) memo: Option<Memo>,
     pub(crate) alloc: Global,
 }
 
@@ -56,6 +59,7 @@ impl<N: Numbers + Drop> System<N> {
                 picks: Items::new(alloc),
                 randoms: Items::new(alloc),
             },
+            memo: None,
             alloc,
         }
     }

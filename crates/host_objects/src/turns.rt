@@ -1,5 +1,7 @@
 ghost use Rattle.std.specs.Prelude.{◌≡◌};
 ghost use Rattle.abi_calls.specs.declared.object.Object.TheVariants.{Thread};
+ghost use Rattle.rv_core.specs.Machine.{trap_of};
+ghost use Rattle.guest_space.specs.Running.{run_space};
 ghost use Rattle.abi_calls.specs.Objects.{object_at};
 ghost use Rattle.abi_calls.specs.Sound.{IsSound};
 ghost use Rattle.abi_calls.specs.Turn.{world_turn, pick_word};
@@ -9,7 +11,8 @@ ghost use Rattle.host_objects.specs.Turns.{HasHome, RunsSlice};
 use crate::numbers::Numbers;
 use crate::system::System;
 use abi_calls::{Object, Turned, Upcall};
-use rv_core::{Context, Ended};
+use guest_memory::Pages;
+use rv_core::{Context, Ended, Memo};
 
 /// What a thread did in a turn: its process, the registers that it has now, and how it ended.
 #[derive(Clone, Copy)]
@@ -17,6 +20,17 @@ struct Slice {
     process: u64,
     context: Context,
     ended: Ended,
+}
+
+/// Does instructions of a thread in the pages of its process until one traps or `most` are done.
+fn run_in(memory: &mut Pages, memo: &mut Option<Memo>, context: &mut Context, most: u32) -> Ended
+    ensures { run_space most context.old memory.old
+        ≡ record { context = context.new; space = memory.new; trap = trap_of result } }
+{
+    match memo {
+        Some(memo) => memory.run_with(context, memo, most),
+        None => memory.run(context, most),
+    }
 }
 
 impl<N: Numbers + Drop> System<N> {
@@ -80,7 +94,7 @@ impl<N: Numbers + Drop> System<N> {
         let Some(mut memory) = self.take_memory(process) else {
             unreachable!();
         };
-        let ended = memory.run(&mut context, most);
+        let ended = run_in(&mut memory, &mut self.memo, &mut context, most);
         self.put_memory(process, memory);
         self.handles
             .set(thread, Object::Thread { process, context });

@@ -4,9 +4,15 @@
 #[cfg(test)]
 mod edges;
 #[cfg(test)]
+mod elf;
+#[cfg(test)]
 mod fields;
 #[cfg(test)]
 mod names;
+#[cfg(test)]
+mod processor;
+#[cfg(test)]
+mod rewriting;
 #[cfg(test)]
 mod schedules;
 #[cfg(test)]

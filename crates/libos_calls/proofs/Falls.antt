@@ -1,5 +1,5 @@
 -- With each reply a service is nearer to its end.
-use Rattle.std.specs.Prelude.{◌≡◌, ℕ, ◌+◌, ◌-◌, ◌*◌, ◌/◌, ◌^◌, ◌<◌, ◌==◌, Bool, true, false, if◌then◌else◌, nat_le, nat_lt, List, [], ◌∷◌, ◌++◌, length, drop, min, IfSome}
+use Rattle.std.specs.Prelude.{◌≡◌, ℕ, ◌+◌, ◌-◌, ◌*◌, ◌^◌, ◌≤◌, ◌<◌, ◌==◌, Bool, true, false, if◌then◌else◌, nat_le, nat_lt, List, [], ◌∷◌, ◌++◌, length, drop, min, IfSome}
 use Rattle.std.specs.declared.option.Option.{Option}
 use Rattle.std.specs.declared.option.Option.TheVariants.{None, Some}
 use Rattle.std.specs.declared.result.Result.{Result}
@@ -10,16 +10,16 @@ use Rattle.std.proofs.lemmas.List.{length_push}
 use Rattle.abi_calls.specs.declared.reply.Reply.{Reply}
 use Rattle.abi_calls.specs.declared.reply.Reply.TheVariants.{Done, Handle, Bytes, Count, Length, BadAddress, NoAccess}
 use Rattle.elf_loader.specs.declared.Program.{Program}
-use Rattle.mono_model.specs.declared.ProgramRefusal.{ProgramRefusal}
-use Rattle.mono_model.specs.Program.{program_of, page_bytes}
-use Rattle.mono_model.proofs.Sizes.{length-page_bytes}
+use Rattle.elf_loader.specs.declared.ElfError.{ElfError}
+use Rattle.elf_loader.specs.Image.{loaded, page_count}
 use Rattle.libos_state.specs.declared.cont.Cont.{Cont}
 use Rattle.libos_state.specs.declared.cont.Stage.{Stage}
 use Rattle.libos_state.specs.declared.cont.Stage.TheVariants.{SetContext, CloseHandles, ReadBuffer, WriteStream, Configure, OpenConsole, OpenProgram, ProgramLength, ReadProgram, CloseProgram, CreateProcess, AllocateRun, WriteRun, ProtectRun, AllocateStack, WriteBlock, CreateThread, CreateEvent, StartThread}
 use Rattle.libos_state.specs.declared.state.LibOs.{LibOs}
-use Rattle.libos_state.specs.Pending.{number, run_in, run_piece}
+use Rattle.libos_state.specs.Pending.{number, runs_in, run_in, run_piece}
 use Rattle.libos_state.specs.Answered.{starting, with_step, service_closing, load_step, answered_at, answered, answered_in}
 use Rattle.libos_state.specs.Kept.{KeptAt, IsKept}
+use Rattle.libos_state.proofs.Programs.{few_runs, lies_behind}
 use Rattle.libos_calls.proofs.Pieces.{length-run_piece}
 use Rattle.libos_calls.specs.Left.{weighed, runs_left, left_at, left_of, calls_left, IsLengthSmall}
 
@@ -49,20 +49,32 @@ read_falls c bytes false false n a =
     let more = leb-false (number c 0) (length (c.bytes ++ bytes)) a in
     omega (arith, length-append c.bytes bytes)
 
-loads_falls : (os : LibOs) (c : Cont) (program : Result Program ProgramRefusal) → calls_left (with_step os (load_step c program)) < weighed 2 0 1 0 + 1
+loads_falls : (os : LibOs) (c : Cont) (program : Result Program ElfError) → calls_left (with_step os (load_step c program)) < weighed 2 0 1 0 + 1
 loads_falls os c (Ok program) = omega arith
 loads_falls os c (Err cause) = omega arith
 
-run_small : (file size first : ℕ) → file < 2 ^ 32 → size ≡ (file + 4095) / 4096 * 4096 → first ≡ 0 → weighed 1 1 1 (size - 0) + 1 < weighed 1 (1 - first) 2 0 + 1
-run_small file size first short pages f = omega arith
+-- The first run is loaded next, of no more runs than there are pages.
+made_falls : (runs : ℕ) → runs ≤ 1008 → weighed 1 (runs - 0) 2 0 + 1 < weighed 2 0 0 0 + 1
+made_falls runs few = omega arith
 
-piece_nearer : (size from cut first : ℕ) → cut ≡ min 65536 (size - from) → from + cut < size → first ≡ 0 → weighed 1 1 1 (size - (from + cut)) + 1 < weighed 1 (1 - first) 1 (size - from) + 1
-piece_nearer size from cut first piece more f = omega arith
+run_small : (left size count : ℕ) → size ≡ 4096 * count → count ≤ 1008 → weighed 1 left 1 (size - 0) + 1 < weighed 1 left 2 0 + 1
+run_small left size count pages few = omega arith
 
-writes_falls : (c : Cont) (more : Bool) → number c 0 ≡ 0 → nat_lt (number c 1 + length (run_piece c)) (length (run_in c).bytes) ≡ more →
-    left_of (Some (if more then starting c WriteRun c.bytes c.handles (0 ∷ (number c 1 + length (run_piece c)) ∷ []) else starting c ProtectRun c.bytes c.handles (0 ∷ []))) < left_at c WriteRun + 1
-writes_falls c true first m = piece_nearer (length (run_in c).bytes) (number c 1) (length (run_piece c)) (number c 0) (length-run_piece c) (ltb-true _ _ m) first
-writes_falls c false first m = omega arith
+piece_nearer : (left size from cut : ℕ) → cut ≡ min 65536 (size - from) → from + cut < size → weighed 1 left 1 (size - (from + cut)) + 1 < weighed 1 left 1 (size - from) + 1
+piece_nearer left size from cut piece more = omega arith
+
+writes_falls : (c : Cont) (more : Bool) → nat_lt (number c 1 + length (run_piece c)) (length (run_in c).bytes) ≡ more →
+    left_of (Some (if more then starting c WriteRun c.bytes c.handles (number c 0 ∷ (number c 1 + length (run_piece c)) ∷ []) else starting c ProtectRun c.bytes c.handles (number c 0 ∷ []))) < left_at c WriteRun + 1
+writes_falls c true m = piece_nearer (runs_left c) (length (run_in c).bytes) (number c 1) (length (run_piece c)) (length-run_piece c) (ltb-true _ _ m)
+writes_falls c false m = omega arith
+
+next_falls : (runs run : ℕ) → run + 1 < runs → weighed 1 (runs - (run + 1)) 2 0 + 1 < weighed 1 (runs - run) 0 0 + 1
+next_falls runs run more = omega arith
+
+run_falls : (c : Cont) (more : Bool) → nat_lt (number c 0 + 1) (length (runs_in c)) ≡ more →
+    left_of (Some (if more then starting c AllocateRun c.bytes c.handles ((number c 0 + 1) ∷ []) else starting c AllocateStack c.bytes c.handles [])) < left_at c ProtectRun + 1
+run_falls c true m = next_falls (length (runs_in c)) (number c 0) (ltb-true _ _ m)
+run_falls c false m = omega arith
 
 falls_at : (os : LibOs) (c : Cont) (stage : Stage) (r : Reply) → KeptAt c stage → (stage ≡ ProgramLength → IsLengthSmall r) → calls_left (answered_at os c stage r) < left_at c stage + 1
 falls_at os c SetContext Done kept small = lit< tt
@@ -76,11 +88,11 @@ falls_at os c OpenConsole (Handle h) kept small = opened_falls c c.handles h (le
 falls_at os c OpenProgram (Handle h) kept small = lit< tt
 falls_at os c ProgramLength (Length size) kept small = length_falls c size (size == 0) (small refl)
 falls_at os c ReadProgram (Bytes bytes) kept small = read_falls c bytes (length bytes == 0) (nat_le (number c 0) (length (c.bytes ++ bytes))) refl refl
-falls_at os c CloseProgram Done kept small = loads_falls os c (program_of c.bytes)
-falls_at os c CreateProcess (Handle h) kept small = lit< tt
-falls_at os c AllocateRun Done kept small = run_small (length c.bytes) (length (page_bytes c.bytes)) (number c 0) kept.short (length-page_bytes c.bytes kept.headed) kept.first
-falls_at os c WriteRun Done kept small = writes_falls c (nat_lt (number c 1 + length (run_piece c)) (length (run_in c).bytes)) kept.program.first refl
-falls_at os c ProtectRun Done kept small = omega arith
+falls_at os c CloseProgram Done kept small = loads_falls os c (loaded c.bytes)
+falls_at os c CreateProcess (Handle h) kept small = made_falls (length (runs_in c)) (few_runs c kept)
+falls_at os c AllocateRun Done kept small = let lies = lies_behind c kept in run_small (runs_left c) (length (run_in c).bytes) (page_count (run_in c)) lies.whole (let room = lies.room in omega arith)
+falls_at os c WriteRun Done kept small = writes_falls c (nat_lt (number c 1 + length (run_piece c)) (length (run_in c).bytes)) refl
+falls_at os c ProtectRun Done kept small = run_falls c (nat_lt (number c 0 + 1) (length (runs_in c))) refl
 falls_at os c AllocateStack Done kept small = lit< tt
 falls_at os c WriteBlock Done kept small = lit< tt
 falls_at os c CreateThread (Handle h) kept small = lit< tt

@@ -5,12 +5,11 @@ use Rattle.std.specs.declared.option.Option.{Option}
 use Rattle.std.specs.declared.option.Option.TheVariants.{None, Some}
 use Rattle.abi_calls.specs.declared.reply.Reply.{Reply}
 use Rattle.abi_calls.specs.declared.reply.Reply.TheVariants.{Length}
-use Rattle.mono_model.specs.Program.{plain_program}
 use Rattle.libos_state.specs.declared.cont.Cont.{Cont}
 use Rattle.libos_state.specs.declared.cont.Stage.{Stage}
 use Rattle.libos_state.specs.declared.cont.Stage.TheVariants.{SetContext, Resume, CloseHandles, ExitProcess, ReadBuffer, WriteStream, Configure, OpenConsole, OpenProgram, ProgramLength, ReadProgram, CloseProgram, CreateProcess, AllocateRun, WriteRun, ProtectRun, AllocateStack, WriteBlock, CreateThread, CreateEvent, StartThread}
 use Rattle.libos_state.specs.declared.state.LibOs.{LibOs}
-use Rattle.libos_state.specs.Pending.{number, run_in}
+use Rattle.libos_state.specs.Pending.{number, runs_in, run_in}
 
 -- How many phases are behind this one. A start opens and reads the program, then loads its runs,
 -- and then begins; every other service has one phase.
@@ -29,7 +28,7 @@ phases_behind _ = 0
 
 -- How many runs of the program are not loaded yet.
 abbrev pub runs_left : Cont → ℕ
-runs_left c = length (plain_program c.bytes).runs - number c 0
+runs_left c = length (runs_in c) - number c 0
 
 -- How many rounds of the phase are left: a phase whose stages come round for each run has as many
 -- as there are runs.
@@ -78,7 +77,8 @@ abbrev pub weighed : ℕ → ℕ → ℕ → ℕ → ℕ
 weighed phases rounds stages rest = ((phases * 2 ^ 32 + rounds) * 2 ^ 4 + stages) * 2 ^ 66 + rest
 
 abbrev pub left_at : Cont → Stage → ℕ
-left_at c stage = weighed (phases_behind stage) (rounds_left c stage) (stages_behind stage) (left_in c stage)
+left_at c stage =
+    weighed (phases_behind stage) (rounds_left c stage) (stages_behind stage) (left_in c stage)
 
 -- A service in progress has a call to make at least.
 abbrev pub left_of : Option Cont → ℕ

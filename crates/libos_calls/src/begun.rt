@@ -1,4 +1,4 @@
-ghost use Rattle.std.specs.Prelude.{◌≡◌, [], IfOk};
+ghost use Rattle.std.specs.Prelude.{◌≡◌, ◌∷◌, IfOk};
 ghost use Rattle.std.specs.Option.{option_copied};
 ghost use Rattle.libos_state.specs.Entered as spec;
 ghost use Rattle.libos_state.specs.Records as records;
@@ -9,18 +9,38 @@ use bas_edge::Memory;
 use bas_items::Items;
 use libos_state::{Boot, Cont, Event, LibOs, ProcessNote, Stage};
 use rv_core::Context;
-use std::alloc::Global;
+use std::alloc::{AllocError, Global};
 
-/// The library OS that begins a run of a program without further arguments: its first service is the start.
-pub fn boot(alloc: Global, program: &[u8], settings: Settings) -> Result<LibOs, Memory>
-    ensures { IfOk result (λ os. os ≡ spec.booting program.now [] settings) }
+/// The names that a start keeps: the program's, and its arguments, of which the first is that name.
+fn names_of(
+    alloc: Global,
+    program: &[u8],
+    args: &[Items<u8>],
+) -> Result<Items<Items<u8>>, AllocError>
+    ensures { IfOk result (λ names. names ≡ program.now ∷ program.now ∷ args.now) }
 {
     let mut names = Items::new(alloc);
     names.push(Items::from_slice(alloc, program)?)?;
     names.push(Items::from_slice(alloc, program)?)?;
+    for arg in args {
+        names.push(Items::from_slice(alloc, arg.as_slice())?)?;
+    }
+    Ok(names)
+}
+
+/// The library OS that begins a run of a program with these arguments behind its name: its first service is the start.
+pub fn boot(
+    alloc: Global,
+    program: &[u8],
+    args: Items<Items<u8>>,
+    settings: Settings,
+) -> Result<LibOs, Memory>
+    ensures { IfOk result (λ os. os ≡ spec.booting program.now args settings) }
+{
+    let names = names_of(alloc, program, args.as_slice())?;
     let event = Event::Boot {
         program: Items::from_slice(alloc, program)?,
-        args: Items::new(alloc),
+        args,
     };
     let cont = Cont {
         event,
@@ -49,7 +69,8 @@ pub fn booted(os: &LibOs) -> Boot
     os.boot
 }
 
-fn process_by_pid(processes: &[ProcessNote], pid: u64) -> Option<&ProcessNote>
+/// The record of the process of this id.
+pub fn process_by_pid(processes: &[ProcessNote], pid: u64) -> Option<&ProcessNote>
     ensures { option_copied result ≡ process_named pid processes.now }
 {
     processes.iter().find(|note| note.pid == pid)

@@ -47,7 +47,8 @@ fn code_of_fault(cause: u8) -> u8
 /// The service of a write to an open description, of so many bytes.
 fn write_to(alloc: Global, upcall: Upcall, access: u8, count: u64) -> Cont
     requires { count ≡ register upcall.context 12 }
-    ensures { (os : LibOs) (d : Description) → d.access ≡ access → spec.write_entered os upcall (Some d) ≡ record os { cont = Some result } }
+    ensures { (os : LibOs) (d : Description) → d.access ≡ access
+        → spec.write_entered os upcall (Some d) ≡ record os { cont = Some result } }
 {
     if access & WRITABLE == WRITABLE {
         if count == 0 {
@@ -81,7 +82,7 @@ fn pid_with(os: &LibOs, handle: u64) -> u64
 }
 
 /// Whether a descriptor of the process names the description.
-fn has_open(note: &ProcessNote, id: u64) -> bool
+pub fn has_open(note: &ProcessNote, id: u64) -> bool
     ensures { result ≡ list_any (λ d. d.description == id) note.now.descriptors }
 {
     note.descriptors

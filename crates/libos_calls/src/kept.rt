@@ -68,7 +68,8 @@ fn descriptor_by_number(descriptors: &[DescriptorNote], number: u64) -> Option<&
     descriptors.iter().find(|note| note.number == number)
 }
 
-fn description_by_id(descriptions: &[Description], id: u64) -> Option<&Description>
+/// The record of the open description of this id.
+pub fn description_by_id(descriptions: &[Description], id: u64) -> Option<&Description>
     ensures { option_copied result ≡ description_named id descriptions.now }
 {
     descriptions.iter().find(|note| note.id == id)

@@ -1,77 +1,77 @@
-ghost use Rattle.std.specs.Prelude.{◌≡◌, ℕ, ◌+◌, ◌*◌, ◌^◌, ◌<◌, ◌≤◌, length, take, drop, IfOk};
-ghost use Rattle.mono_model.specs.Program.{headers, is_plain, page_bytes, plain_run};
-ghost use Rattle.mono_model.specs.Starting.{pages_in};
+ghost use Rattle.std.specs.Prelude.{◌≡◌, ◌^◌, ◌<◌, ◌≤◌, IfOk, None, length, slice_index_or};
+ghost use Rattle.guest_space.specs.Regions.{extent_end};
+ghost use Rattle.elf_loader.specs.Refusal.{refusal};
+ghost use Rattle.elf_loader.specs.Image.{bytes_at, extent_of, layout_of, program_of};
+ghost use Rattle.libos_state.specs.Pending.{no_run};
 
+use bas_edge::Memory;
 use bas_items::Items;
-use std::alloc::{AllocError, Global};
-
-/// The bytes before the segment: the ELF header and one program header.
-const HEADERS: usize = 120;
+use elf_loader::{ElfError, Layout, LoadError, layout, piece};
+use guest_space::Extent;
+use std::alloc::Global;
 
 /// The bytes of a page.
-const PAGE: usize = 4096;
+pub const PAGE: u64 = 4096;
 
-const ELF_HEADER: [u8; 64] = [
-    0x7f, 0x45, 0x4c, 0x46, 2, 1, 1, 0, 0, 0, 0, 0, 0, 0, 0, 0, //
-    2, 0, 0xf3, 0, 1, 0, 0, 0, 0x78, 0, 1, 0, 0, 0, 0, 0, //
-    0x40, 0, 0, 0, 0, 0, 0, 0, 0, 0, 0, 0, 0, 0, 0, 0, //
-    0, 0, 0, 0, 0x40, 0, 0x38, 0, 1, 0, 0, 0, 0, 0, 0, 0,
-];
-
-const SEGMENT_FRONT: [u8; 32] = [
-    1, 0, 0, 0, 7, 0, 0, 0, 0x78, 0, 0, 0, 0, 0, 0, 0, //
-    0x78, 0, 1, 0, 0, 0, 0, 0, 0x78, 0, 1, 0, 0, 0, 0, 0,
-];
-
-const ALIGN: [u8; 8] = [0, 0x10, 0, 0, 0, 0, 0, 0];
-
-/// The two headers of a program of so many bytes.
-#[tactic(auto, unfolding(mono_model::specs::Program::headers))]
-fn program_headers(alloc: Global, size: u64) -> Result<Items<u8>, AllocError>
-    ensures { IfOk result (λ text. text ≡ headers size) }
+/// Why the loader refuses a file; `None` where it takes it.
+pub fn refusal_of(alloc: Global, file: &[u8]) -> Result<Option<ElfError>, Memory>
+    ensures { IfOk result (λ found. found ≡ refusal file.now) }
 {
-    let mut text = Items::from_slice(alloc, &ELF_HEADER)?;
-    text.extend_from_slice(&SEGMENT_FRONT)?;
-    text.extend_from_slice(&size.to_le_bytes())?;
-    text.extend_from_slice(&size.to_le_bytes())?;
-    text.extend_from_slice(&ALIGN)?;
-    Ok(text)
-}
-
-/// Whether the file is a program of the form that is taken so far.
-pub fn is_program(alloc: Global, file: &[u8]) -> Result<bool, AllocError>
-    ensures { IfOk result (λ b. b ≡ is_plain file.now) }
-{
-    if file.len() < HEADERS + 4 || file.len() > HEADERS + (1 << 20) {
-        return Ok(false);
+    match layout(alloc, file) {
+        Ok(_) => Ok(None),
+        Err(LoadError::Refused(cause)) => Ok(Some(cause)),
+        Err(LoadError::Memory) => Err(Memory),
     }
-    let (head, segment) = file.split_at(HEADERS);
-    let wanted = program_headers(alloc, segment.len() as u64)?;
-    Ok(head == wanted.as_slice())
 }
 
-/// How many pages the program has.
-pub fn count_of_pages(file: &[u8]) -> u64
-    requires headed { 120 ≤ length file.now }
-    requires short { length file.now < 2 ^ 32 }
-    ensures small { result < 2 ^ 21 }
-    ensures pages { result ≡ pages_in (plain_run file.now) }
-    ensures size { result * 4096 ≡ length (page_bytes file.now) }
+/// Where the program of a file lies that the loader takes.
+fn layout_in(alloc: Global, file: &[u8]) -> Result<Layout, Memory>
+    requires { refusal file.now ≡ None }
+    ensures { IfOk result (λ layout. layout ≡ layout_of file.now) }
 {
-    ((file.len() + (PAGE - 1)) / PAGE) as u64
+    match layout(alloc, file) {
+        Ok(layout) => Ok(layout),
+        Err(LoadError::Refused(_)) => unreachable!(),
+        Err(LoadError::Memory) => Err(Memory),
+    }
 }
 
-/// The bytes of the program's pages.
-pub fn bytes_of_pages(alloc: Global, file: &[u8]) -> Result<Items<u8>, AllocError>
-    requires enough { 120 ≤ length file.now }
-    requires small { length file.now < 2 ^ 32 }
-    ensures { IfOk result (λ bytes. bytes ≡ page_bytes file.now) }
+/// The address of the program's first instruction.
+pub fn entry_of(alloc: Global, file: &[u8]) -> Result<u64, Memory>
+    requires { refusal file.now ≡ None }
+    ensures { IfOk result (λ entry. entry ≡ (program_of file.now).entry) }
 {
-    let (_, segment) = file.split_at(HEADERS);
-    let size = (file.len() + (PAGE - 1)) / PAGE * PAGE;
-    let mut bytes = vec![in alloc; 0; HEADERS]?;
-    bytes.extend_from_slice(segment)?;
-    let rest = vec![in alloc; 0; size - file.len()]?;
-    bytes.extend_from_slice(rest.as_slice())?;
+    let layout = layout_in(alloc, file)?;
+    Ok(layout.entry)
+}
+
+/// How many runs the program has.
+pub fn count_of_runs(alloc: Global, file: &[u8]) -> Result<u64, Memory>
+    requires { refusal file.now ≡ None }
+    ensures { IfOk result (λ count. count ≡ length (program_of file.now).runs) }
+{
+    let layout = layout_in(alloc, file)?;
+    Ok(layout.runs.len() as u64)
+}
+
+/// Where the run of that number lies.
+pub fn run_at(alloc: Global, file: &[u8], number: u64) -> Result<Extent, Memory>
+    requires taken { refusal file.now ≡ None }
+    requires among { number < length (program_of file.now).runs }
+    ensures run { IfOk result (λ run.
+        run ≡ extent_of (slice_index_or (program_of file.now).runs number no_run)) }
+    ensures small { IfOk result (λ run. extent_end run ≤ 2 ^ 26) }
+{
+    let layout = layout_in(alloc, file)?;
+    Ok(layout.runs.as_slice()[number as usize])
+}
+
+/// So many bytes of the program, from an address on.
+pub fn bytes_from(alloc: Global, file: &[u8], start: u64, size: u64) -> Result<Items<u8>, Memory>
+    requires { refusal file.now ≡ None }
+    ensures { IfOk result (λ bytes. bytes ≡ bytes_at file.now start size) }
+{
+    let mut bytes = vec![in alloc; 0u8; size as usize]?;
+    piece(file, start, bytes.as_mut_slice());
     Ok(Items::from_vec(bytes))
 }

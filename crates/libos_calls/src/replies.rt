@@ -12,7 +12,8 @@ ghost use Rattle.libos_calls.specs.Left.{calls_left, IsLengthSmall};
 use crate::kept::{A0, items_from, upcall_of};
 use crate::start_replies::{
     at_stage, change_of, child_made, end_opened, event_made, length_told, piece_read,
-    piece_written, program_opened, program_read, run_allocated, thread_made, with_handles,
+    piece_written, program_opened, program_read, run_allocated, run_loaded, thread_made,
+    with_handles,
 };
 use abi_calls::Reply;
 use bas_edge::Memory;
@@ -155,11 +156,11 @@ fn step_of(alloc: Global, cont: Cont, reply: Reply) -> Result<Step, Memory>
         (Stage::OpenProgram, reply) => Ok(program_opened(alloc, cont, &reply)?),
         (Stage::ProgramLength, reply) => Ok(length_told(alloc, cont, &reply)?),
         (Stage::ReadProgram, Reply::Bytes(bytes)) => Ok(Asks(piece_read(alloc, cont, &bytes)?)),
-        (Stage::CloseProgram, Reply::Done) => Ok(program_read(alloc, cont)?),
+        (Stage::CloseProgram, Reply::Done) => program_read(alloc, cont),
         (Stage::CreateProcess, Reply::Handle(handle)) => Ok(Asks(child_made(alloc, cont, handle)?)),
         (Stage::AllocateRun, Reply::Done) => Ok(Asks(run_allocated(alloc, cont)?)),
         (Stage::WriteRun, Reply::Done) => Ok(Asks(piece_written(alloc, cont)?)),
-        (Stage::ProtectRun, Reply::Done) => Ok(Asks(at_stage(alloc, cont, Stage::AllocateStack))),
+        (Stage::ProtectRun, Reply::Done) => Ok(Asks(run_loaded(alloc, cont)?)),
         (Stage::AllocateStack, Reply::Done) => Ok(Asks(at_stage(alloc, cont, Stage::WriteBlock))),
         (Stage::WriteBlock, Reply::Done) => Ok(Asks(at_stage(alloc, cont, Stage::CreateThread))),
         (Stage::CreateThread, Reply::Handle(handle)) => Ok(Asks(thread_made(alloc, cont, handle)?)),

@@ -1,33 +1,25 @@
-ghost use Rattle.std.specs.Prelude.{◌≡◌, ◌^◌, ◌<◌, ◌≤◌, IfOk, length, drop, true, take, nat_le, ◌∷◌, replicate};
+ghost use Rattle.std.specs.Prelude.{◌≡◌, ◌^◌, ◌≤◌, IfOk, length, true, nat_le, ◌∷◌, replicate};
 ghost use Rattle.std.specs.List.{list_all};
 ghost use Rattle.mono_model.specs.Starting.{stack_pointer};
 ghost use Rattle.libos_state.specs.declared.state.LibOs.{LibOs};
 ghost use Rattle.libos_state.specs.Pending as spec;
+ghost use Rattle.guest_space.specs.Regions.{extent_end};
+ghost use Rattle.elf_loader.specs.Image.{extent_of};
+ghost use Rattle.libos_state.specs.Fits.{KeepsRun, KeepsPlace};
 ghost use Rattle.libos_state.specs.Kept.{KeptAt};
 ghost use Rattle.libos_state.specs.declared.cont.Cont.{Cont};
-ghost use Rattle.mono_model.specs.Program.{page_bytes};
 
 use crate::block::{block, block_address};
 use crate::calls::PIECE;
-use crate::kept::{first_items, items_from, number_at};
-use crate::program::{bytes_of_pages, count_of_pages};
+use crate::kept::number_at;
+use crate::program::{PAGE, bytes_from, entry_of, run_at};
 use abi_calls::{Call, Positions, StreamName};
 use bas_edge::Memory;
 use bas_items::Items;
+use guest_space::Extent;
 use libos_state::{Cont, LibOs, Stage};
 use rv_core::Context;
-use std::alloc::{AllocError, Global};
-
-/// The address of a program's first instruction.
-const ENTRY: u64 = 0x10078;
-
-/// The first page of a program's run, and its address.
-const RUN_PAGE: u64 = 16;
-
-const RUN_ADDRESS: u64 = RUN_PAGE * 4096;
-
-/// The rights of a program's run: to read, write and run.
-const RUN_RIGHTS: u8 = 7;
+use std::alloc::Global;
 
 /// The right to read and the right to write.
 const READ_WRITE: u8 = 3;
@@ -74,26 +66,42 @@ fn arguments(cont: &Cont) -> &[Items<u8>]
     }
 }
 
-/// The next bytes of the program's run, of which so many are written.
-fn run_piece(alloc: Global, file: &[u8], written: u64) -> Result<Items<u8>, AllocError>
-    requires headed { 120 ≤ length file.now }
-    requires small { length file.now < 2 ^ 32 }
-    ensures { IfOk result (λ piece. piece ≡ take 65536 (drop written (page_bytes file.now))) }
+/// The run that is loaded.
+pub fn run_in(alloc: Global, cont: &Cont) -> Result<Extent, Memory>
+    requires { KeepsRun cont.now }
+    ensures run { IfOk result (λ run. run ≡ extent_of (spec.run_in cont.now)) }
+    ensures small { IfOk result (λ run. extent_end run ≤ 2 ^ 26) }
 {
-    let bytes = bytes_of_pages(alloc, file)?;
-    let rest = items_from(bytes.as_slice(), written as usize);
-    Items::from_slice(alloc, first_items(rest, PIECE as usize))
+    let number = number_at(cont.numbers.as_slice(), 0);
+    run_at(alloc, cont.bytes.as_slice(), number)
+}
+
+/// The next bytes of the run that is loaded, of which so many are written.
+fn run_piece(alloc: Global, cont: &Cont, run: &Extent) -> Result<Items<u8>, Memory>
+    requires kept { KeepsPlace cont.now }
+    requires run { run.now ≡ extent_of (spec.run_in cont.now) }
+    requires small { extent_end run.now ≤ 2 ^ 26 }
+    ensures { IfOk result (λ piece. piece ≡ spec.run_piece cont.now) }
+{
+    let written = number_at(cont.numbers.as_slice(), 1);
+    let rest = (run.count * PAGE).saturating_sub(written);
+    bytes_from(
+        alloc,
+        cont.bytes.as_slice(),
+        run.page * PAGE + written,
+        rest.min(PIECE),
+    )
 }
 
 /// The registers that the program begins with.
-fn first_context(args: &[Items<u8>]) -> Context
+fn first_context(entry: u64, args: &[Items<u8>]) -> Context
     requires few { length args.now ≤ 16 }
     requires short { list_all (λ arg. nat_le (length arg) 80) args.now ≡ true }
-    ensures { result ≡ record { pc = 0x10078; x = 0 ∷ stack_pointer args.now ∷ replicate 29 0 } }
+    ensures { result ≡ record { pc = entry; x = 0 ∷ stack_pointer args.now ∷ replicate 29 0 } }
 {
     let mut x = [0; 31];
     x[1] = block_address(args);
-    Context { pc: ENTRY, x }
+    Context { pc: entry, x }
 }
 
 /// The file of the program, or the process that is made.
@@ -168,17 +176,18 @@ pub fn close_program(cont: &Cont) -> Call
     }
 }
 
-pub fn allocate_run(cont: &Cont) -> Call
+pub fn allocate_run(alloc: Global, cont: &Cont) -> Result<Call, Memory>
     requires kept { KeptAt cont.now cont.now.stage }
     requires stage { cont.now.stage ≡ Stage.AllocateRun }
-    ensures { (os : LibOs) → result ≡ spec.asked os cont.now cont.now.stage }
+    ensures { IfOk result (λ call. (os : LibOs) → call ≡ spec.asked os cont.now cont.now.stage) }
 {
-    Call::MemoryAllocate {
+    let run = run_in(alloc, cont)?;
+    Ok(Call::MemoryAllocate {
         process: file_or_child(cont),
-        page: RUN_PAGE,
-        count: count_of_pages(cont.bytes.as_slice()),
+        page: run.page,
+        count: run.count,
         rights: READ_WRITE,
-    }
+    })
 }
 
 pub fn write_run(alloc: Global, cont: &Cont) -> Result<Call, Memory>
@@ -186,26 +195,27 @@ pub fn write_run(alloc: Global, cont: &Cont) -> Result<Call, Memory>
     requires stage { cont.now.stage ≡ Stage.WriteRun }
     ensures { IfOk result (λ call. (os : LibOs) → call ≡ spec.asked os cont.now cont.now.stage) }
 {
-    let written = number_at(cont.numbers.as_slice(), 1);
-    let bytes = run_piece(alloc, cont.bytes.as_slice(), written)?;
+    let run = run_in(alloc, cont)?;
+    let bytes = run_piece(alloc, cont, &run)?;
     Ok(Call::MemoryWrite {
         process: file_or_child(cont),
-        address: RUN_ADDRESS + written,
+        address: run.page * PAGE + number_at(cont.numbers.as_slice(), 1),
         bytes,
     })
 }
 
-pub fn protect_run(cont: &Cont) -> Call
+pub fn protect_run(alloc: Global, cont: &Cont) -> Result<Call, Memory>
     requires kept { KeptAt cont.now cont.now.stage }
     requires stage { cont.now.stage ≡ Stage.ProtectRun }
-    ensures { (os : LibOs) → result ≡ spec.asked os cont.now cont.now.stage }
+    ensures { IfOk result (λ call. (os : LibOs) → call ≡ spec.asked os cont.now cont.now.stage) }
 {
-    Call::MemoryProtect {
+    let run = run_in(alloc, cont)?;
+    Ok(Call::MemoryProtect {
         process: file_or_child(cont),
-        page: RUN_PAGE,
-        count: count_of_pages(cont.bytes.as_slice()),
-        rights: RUN_RIGHTS,
-    }
+        page: run.page,
+        count: run.count,
+        rights: run.rights,
+    })
 }
 
 pub fn allocate_stack(cont: &Cont) -> Call
@@ -234,15 +244,16 @@ pub fn write_block(alloc: Global, cont: &Cont) -> Result<Call, Memory>
     })
 }
 
-pub fn create_thread(cont: &Cont) -> Call
+pub fn create_thread(alloc: Global, cont: &Cont) -> Result<Call, Memory>
     requires kept { KeptAt cont.now cont.now.stage }
     requires stage { cont.now.stage ≡ Stage.CreateThread }
-    ensures { (os : LibOs) → result ≡ spec.asked os cont.now cont.now.stage }
+    ensures { IfOk result (λ call. (os : LibOs) → call ≡ spec.asked os cont.now cont.now.stage) }
 {
-    Call::ThreadCreate {
+    let entry = entry_of(alloc, cont.bytes.as_slice())?;
+    Ok(Call::ThreadCreate {
         process: file_or_child(cont),
-        context: first_context(arguments(cont)),
-    }
+        context: first_context(entry, arguments(cont)),
+    })
 }
 
 pub fn start_thread(cont: &Cont) -> Call

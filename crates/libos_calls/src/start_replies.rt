@@ -1,27 +1,26 @@
 ghost use Rattle.std.specs.Prelude.{◌≡◌, ◌+◌, IfOk, OnOk, [], ◌∷◌, ◌++◌, length};
-ghost use Rattle.mono_model.specs.Program.{program_of};
-ghost use Rattle.libos_state.specs.Pending.{number, run_in, run_piece};
+ghost use Rattle.elf_loader.specs.Image.{loaded};
+ghost use Rattle.libos_state.specs.Pending as pending;
+ghost use Rattle.libos_state.specs.Pending.{number, run_piece};
 ghost use Rattle.libos_state.specs.declared.cont.Cont.{Cont};
 ghost use Rattle.libos_state.specs.Answered as spec;
-ghost use Rattle.libos_state.specs.Kept.{IsWriting, KeptAt};
+ghost use Rattle.libos_state.specs.Fits.{KeepsRun, KeepsPlace};
 ghost use Rattle.libos_calls.specs.Left.{IsLengthSmall};
 
 use crate::calls::PIECE;
 use crate::kept::{first_items, number_at};
-use crate::program::{count_of_pages, is_program};
+use crate::program::{PAGE, count_of_runs, refusal_of};
+use crate::start_calls::run_in;
 use abi_calls::Reply;
+use bas_edge::Memory;
 use bas_items::Items;
 use libos_state::{
-    Boot, Change, Cont, Description, DescriptorNote, Kind, ProcessNote, ProgramRefusal, Stage,
-    Step, ThreadNote,
+    Boot, Change, Cont, Description, DescriptorNote, Kind, ProcessNote, Stage, Step, ThreadNote,
 };
 use std::alloc::{AllocError, Global};
 
 /// How many ends the console has.
 const CONSOLES: usize = 3;
-
-/// The bytes of a page.
-const PAGE: u64 = 4096;
 
 /// The access of a description that is read, and of one that is written.
 const READ: u8 = 1;
@@ -96,22 +95,23 @@ pub fn piece_read(alloc: Global, mut cont: Cont, piece: &Items<u8>) -> Result<Co
     Ok(cont)
 }
 
-/// So many bytes of the program's run are written, of all that it has.
+/// So many bytes of the run are written, of all that it has.
 fn written_to(alloc: Global, mut cont: Cont, written: u64, size: u64) -> Result<Cont, AllocError>
     requires stage { cont.stage ≡ Stage.WriteRun }
-    requires size { size ≡ length (run_in cont).bytes }
+    requires size { size ≡ length (pending.run_in cont).bytes }
     ensures { IfOk result (λ next. next ≡ spec.start_writing cont written) }
 {
+    let run = number_at(cont.numbers.as_slice(), 0);
     if written < size {
-        cont.numbers = Items::from_slice(alloc, &[0, written])?;
+        cont.numbers = Items::from_slice(alloc, &[run, written])?;
         return Ok(cont);
     }
-    cont.numbers = Items::from_slice(alloc, &[0])?;
+    cont.numbers = Items::from_slice(alloc, &[run])?;
     cont.stage = Stage::ProtectRun;
     Ok(cont)
 }
 
-/// The process is made, whose memory gets the program's run.
+/// The process is made, whose memory gets the program's runs.
 pub fn child_made(alloc: Global, mut cont: Cont, handle: u64) -> Result<Cont, AllocError>
     ensures { IfOk result (λ next. next
         ≡ spec.starting cont Stage.AllocateRun cont.bytes (cont.handles ++ handle ∷ []) (0 ∷ [])) }
@@ -125,9 +125,10 @@ pub fn child_made(alloc: Global, mut cont: Cont, handle: u64) -> Result<Cont, Al
 /// The run has its pages, of which none is written.
 pub fn run_allocated(alloc: Global, mut cont: Cont) -> Result<Cont, AllocError>
     ensures { IfOk result (λ next.
-        next ≡ spec.starting cont Stage.WriteRun cont.bytes cont.handles (0 ∷ 0 ∷ [])) }
+        next ≡ spec.starting cont Stage.WriteRun cont.bytes cont.handles (number cont 0 ∷ 0 ∷ [])) }
 {
-    cont.numbers = Items::from_slice(alloc, &[0, 0])?;
+    let run = number_at(cont.numbers.as_slice(), 0);
+    cont.numbers = Items::from_slice(alloc, &[run, 0])?;
     cont.stage = Stage::WriteRun;
     Ok(cont)
 }
@@ -150,17 +151,34 @@ pub fn event_made(alloc: Global, mut cont: Cont, handle: u64) -> Result<Cont, Al
     Ok(at_stage(alloc, cont, Stage::StartThread))
 }
 
-/// A piece of the program's run is written.
-pub fn piece_written(alloc: Global, cont: Cont) -> Result<Cont, AllocError>
+/// A piece of the run is written.
+pub fn piece_written(alloc: Global, cont: Cont) -> Result<Cont, Memory>
     requires stage { cont.stage ≡ Stage.WriteRun }
-    requires kept { IsWriting cont }
+    requires kept { KeepsPlace cont }
     ensures { IfOk result (λ next.
         next ≡ spec.start_writing cont (number cont 1 + length (run_piece cont))) }
 {
-    let size = count_of_pages(cont.bytes.as_slice()) * PAGE;
+    let run = run_in(alloc, &cont)?;
     let written = number_at(cont.numbers.as_slice(), 1);
+    let size = run.count * PAGE;
     let piece = PIECE.min(size.saturating_sub(written));
-    written_to(alloc, cont, written + piece, size)
+    Ok(written_to(alloc, cont, written + piece, size)?)
+}
+
+/// The run has its rights: the next one follows, or the stack.
+pub fn run_loaded(alloc: Global, mut cont: Cont) -> Result<Cont, Memory>
+    requires stage { cont.stage ≡ Stage.ProtectRun }
+    requires kept { KeepsRun cont }
+    ensures { IfOk result (λ next. next ≡ spec.start_loading cont (number cont 0 + 1)) }
+{
+    let count = count_of_runs(alloc, cont.bytes.as_slice())?;
+    let run = number_at(cont.numbers.as_slice(), 0);
+    if run + 1 < count {
+        cont.numbers = Items::from_slice(alloc, &[run + 1])?;
+        cont.stage = Stage::AllocateRun;
+        return Ok(cont);
+    }
+    Ok(at_stage(alloc, cont, Stage::AllocateStack))
 }
 
 /// The open descriptions of the console.
@@ -242,12 +260,12 @@ pub fn change_of(alloc: Global, cont: &Cont, reply: &Reply) -> Result<Change, Al
     }
 }
 
-/// What the start does with the bytes of the closed file: they are a program, or it stops.
-pub fn program_read(alloc: Global, mut cont: Cont) -> Result<Step, AllocError>
-    ensures { IfOk result (λ step. step ≡ spec.load_step cont (program_of cont.bytes)) }
+/// What the start does with the bytes of the closed file: they are a program, or it stops with the loader's refusal.
+pub fn program_read(alloc: Global, mut cont: Cont) -> Result<Step, Memory>
+    ensures { IfOk result (λ step. step ≡ spec.load_step cont (loaded cont.bytes)) }
 {
-    if !is_program(alloc, cont.bytes.as_slice())? {
-        return Ok(Step::Stops(Boot::BadProgram(ProgramRefusal::Later)));
+    if let Some(cause) = refusal_of(alloc, cont.bytes.as_slice())? {
+        return Ok(Step::Stops(Boot::BadProgram(cause)));
     }
     cont.handles = Items::from_slice(alloc, first_items(cont.handles.as_slice(), CONSOLES))?;
     Ok(Step::Asks(at_stage(alloc, cont, Stage::CreateProcess)))

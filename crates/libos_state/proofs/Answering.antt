@@ -6,15 +6,13 @@ use Rattle.std.proofs.Common.{refl, subst, ◌∙◌}
 use Rattle.abi_calls.specs.declared.call.Call.{Call}
 use Rattle.abi_calls.specs.declared.reply.Reply.{Reply}
 use Rattle.abi_calls.specs.declared.reply.Reply.TheVariants.{Done, Bytes, Count, BadAddress, NoAccess}
-use Rattle.abi_calls.specs.World.{World}
-use Rattle.abi_calls.specs.Abi.{Abi}
 use Rattle.abi_calls.specs.Sound.{IsSound}
 use Rattle.libos_state.specs.declared.cont.Cont.{Cont}
 use Rattle.libos_state.specs.declared.cont.Stage.{Stage}
 use Rattle.libos_state.specs.declared.cont.Stage.TheVariants.{SetContext, Resume, CloseHandles, ExitProcess, ReadBuffer, WriteStream}
 use Rattle.libos_state.specs.declared.state.Boot.TheVariants.{Going, Up}
 use Rattle.libos_state.specs.declared.state.LibOs.{LibOs}
-use Rattle.libos_state.specs.Records.{visible}
+use Rattle.libos_state.specs.Records.{View, visible}
 use Rattle.libos_state.specs.Pending.{asked, asked_by}
 use Rattle.libos_state.specs.Answered.{answered, answered_at, answered_in}
 use Rattle.libos_state.specs.Meaning.{meaning, meant}
@@ -23,9 +21,10 @@ use Rattle.libos_state.specs.Laws.{Keeps, KeepsMeaning}
 use Rattle.libos_state.proofs.Holds.{Holds, HoldsQuietly}
 use Rattle.libos_state.proofs.Serving.{trap_of}
 use Rattle.libos_state.proofs.Starts.{start_of}
+use Rattle.libos_state.proofs.Views.{Through}
 
 -- What goes on with a service.
-record Goes (os : LibOs) (cont : Option Cont) (w : World) (r : Reply) (w' : World) : Type 0 where
+record Goes (os : LibOs) (cont : Option Cont) (w : View) (r : Reply) (w' : View) : Type 0 where
   pub fits : Fits (answered_in os cont r) w'.objects
   pub keeps : Keeps w (meant os (visible w) cont) w' (meaning (answered_in os cont r) (visible w'))
   pub quiet : os.boot ≡ Going → w'.contents ≡ w.contents
@@ -50,16 +49,16 @@ boot_stays os c _ r other = absurd (cc)
 
 -- Each stage gives what it owes.
 pub record StagesHold (os : LibOs) : Type 0 where
-  pub trap : (c : Cont) (stage : Stage) (w w' : World) (r : Reply) → is_of_start stage ≡ false
-      → FitsStage os w.objects c stage → IsSound w.objects → Abi w (asked os c stage) r w'
+  pub trap : (c : Cont) (stage : Stage) (w w' : View) (r : Reply) → is_of_start stage ≡ false
+      → FitsStage os w.objects c stage → IsSound w.objects → Through w (asked os c stage) r w'
       → Holds os c stage w r w'
-  pub start : (c : Cont) (stage : Stage) (w w' : World) (r : Reply) → is_of_start stage ≡ true
-      → FitsStage os w.objects c stage → IsSound w.objects → Abi w (asked os c stage) r w'
+  pub start : (c : Cont) (stage : Stage) (w w' : View) (r : Reply) → is_of_start stage ≡ true
+      → FitsStage os w.objects c stage → IsSound w.objects → Through w (asked os c stage) r w'
       → HoldsQuietly os c stage w r w'
 
-module _ (os : LibOs) (r : Reply) (hold : StagesHold os) (w w' : World) where
+module _ (os : LibOs) (r : Reply) (hold : StagesHold os) (w w' : View) where
   stage_goes : (c : Cont) → FitsStage os w.objects c c.stage → IsSound w.objects
-      → Abi w (asked os c c.stage) r w' → Goes os (Some c) w r w'
+      → Through w (asked os c c.stage) r w' → Goes os (Some c) w r w'
   stage_goes c fits sound abi = elim (is_of_start c.stage) as (λ b. is_of_start c.stage ≡ b → Goes os (Some c) w r w') [
     | true ↦ λ starts.
         let holds = hold.start c c.stage w w' r starts fits sound abi in
@@ -82,11 +81,11 @@ module _ (os : LibOs) (r : Reply) (hold : StagesHold os) (w w' : World) where
   ] refl
 
   cont_goes : (cont : Option Cont) (call : Call) → asked_by os cont ≡ Some call
-      → FitsCont os w.objects cont → IsSound w.objects → Abi w call r w' → Goes os cont w r w'
+      → FitsCont os w.objects cont → IsSound w.objects → Through w call r w' → Goes os cont w r w'
   cont_goes None call asks fits sound abi = absurd (cc)
   cont_goes (Some c) call asks fits sound abi =
       let same : call ≡ asked os c c.stage = cc in
-      stage_goes c fits sound (subst (λ x. Abi w x r w') same abi)
+      stage_goes c fits sound (subst (λ x. Through w x r w') same abi)
 
 pub answered_from : (os : LibOs) (r : Reply) → StagesHold os → KeepsMeaning os r (answered os r)
 answered_from os r hold = record {

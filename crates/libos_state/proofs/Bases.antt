@@ -1,5 +1,5 @@
 -- The machine that the records name: what its look-ups find, and how it changes with the objects.
-use Rattle.std.specs.Prelude.{◌≡◌, ◌≢◌, ℕ, ◌≤◌, ◌==◌, Bool, true, false, not, ◌||◌, cond, List, [], ◌∷◌, ◌++◌, map, filter, filter_map, find, is_some}
+use Rattle.std.specs.Prelude.{◌≡◌, ◌≢◌, ℕ, ◌≤◌, ◌==◌, Bool, true, false, not, ◌||◌, cond, List, [], ◌∷◌, ◌++◌, map, filter, filter_map, find, count_by, is_some}
 use Rattle.std.specs.List.{cons_option, list_all}
 use Rattle.std.specs.Ordering.{nat_cmp}
 use Rattle.std.specs.FinMap.{FinMap, get, insert, from_entries}
@@ -121,19 +121,25 @@ module _ (os : LibOs) where
       let there = count_by-found test (λ m. m.event == n.event) os.threads n is (eq-eqb n.event n.event refl) in
       omega (arith, there, times_named-recorded n.event os)
 
+-- A record with a number in one list, and one with it in another, are counted each.
+both_counted : {N M : Type 0} (key : N → ℕ) (other : M → ℕ) (h : ℕ) (ns : List N) (ms : List M) (n : N) → find (λ j. key j == h) ns ≡ Some n
+    → (test : M → Bool) (m : M) → find test ms ≡ Some m → other m ≡ h → (1 ≤ count_by (λ j. key j == h) ns) × (1 ≤ count_by (λ j. other j == h) ms)
+both_counted key other h ns ms n is test m there same = (
+  count_by-found (λ j. key j == h) (λ j. key j == h) ns n is (find-passes (λ j. key j == h) ns n is),
+  count_by-found test (λ j. other j == h) ms m there (eq-eqb (other m) h same),
+)
+
 -- The handle of a thread that is recorded once is no process's, no event's and no other thread's.
 module _ (os : LibOs) (h : ℕ) (n : ThreadNote) (once : times_named h (recorded os) ≤ 1) (is : thread_with h os.threads ≡ Some n) where
   pub thread-no_process : (test : ProcessNote → Bool) (p : ProcessNote) → find test os.processes ≡ Some p → p.handle ≢ h
   thread-no_process test p there same =
-      let one = count_by-found (λ (m : ThreadNote). m.handle == h) (λ m. m.handle == h) os.threads n is (find-passes (λ m. m.handle == h) os.threads n is) in
-      let other = count_by-found test (λ m. m.handle == h) os.processes p there (eq-eqb p.handle h same) in
-      omega (arith, one, other, times_named-recorded h os)
+      let both = both_counted (λ j. j.handle) (λ j. j.handle) h os.threads os.processes n is test p there same in
+      omega (arith, both.0, both.1, times_named-recorded h os)
 
   pub thread-no_event : (test : ThreadNote → Bool) (m : ThreadNote) → find test os.threads ≡ Some m → m.event ≢ h
   thread-no_event test m there same =
-      let one = count_by-found (λ (j : ThreadNote). j.handle == h) (λ j. j.handle == h) os.threads n is (find-passes (λ j. j.handle == h) os.threads n is) in
-      let other = count_by-found test (λ j. j.event == h) os.threads m there (eq-eqb m.event h same) in
-      omega (arith, one, other, times_named-recorded h os)
+      let both = both_counted (λ j. j.handle) (λ j. j.event) h os.threads os.threads n is test m there same in
+      omega (arith, both.0, both.1, times_named-recorded h os)
 
   pub thread-alone : (test : ThreadNote → Bool) (m : ThreadNote) → find test os.threads ≡ Some m → m.handle ≡ h → m ≡ n
   thread-alone test m there same =
@@ -144,15 +150,13 @@ module _ (os : LibOs) (h : ℕ) (n : ThreadNote) (once : times_named h (recorded
 module _ (os : LibOs) (h : ℕ) (n : ProcessNote) (once : times_named h (recorded os) ≤ 1) (is : process_with h os.processes ≡ Some n) where
   pub process-no_thread : (test : ThreadNote → Bool) (m : ThreadNote) → find test os.threads ≡ Some m → m.handle ≢ h
   process-no_thread test m there same =
-      let one = count_by-found (λ (p : ProcessNote). p.handle == h) (λ p. p.handle == h) os.processes n is (find-passes (λ p. p.handle == h) os.processes n is) in
-      let other = count_by-found test (λ j. j.handle == h) os.threads m there (eq-eqb m.handle h same) in
-      omega (arith, one, other, times_named-recorded h os)
+      let both = both_counted (λ j. j.handle) (λ j. j.handle) h os.processes os.threads n is test m there same in
+      omega (arith, both.0, both.1, times_named-recorded h os)
 
   pub process-no_event : (test : ThreadNote → Bool) (m : ThreadNote) → find test os.threads ≡ Some m → m.event ≢ h
   process-no_event test m there same =
-      let one = count_by-found (λ (p : ProcessNote). p.handle == h) (λ p. p.handle == h) os.processes n is (find-passes (λ p. p.handle == h) os.processes n is) in
-      let other = count_by-found test (λ j. j.event == h) os.threads m there (eq-eqb m.event h same) in
-      omega (arith, one, other, times_named-recorded h os)
+      let both = both_counted (λ j. j.handle) (λ j. j.event) h os.processes os.threads n is test m there same in
+      omega (arith, both.0, both.1, times_named-recorded h os)
 
   pub process-alone : (test : ProcessNote → Bool) (m : ProcessNote) → find test os.processes ≡ Some m → m.handle ≡ h → m ≡ n
   process-alone test m there same =

@@ -13,8 +13,6 @@ use Rattle.turn_sched.proofs.ThreadLists.{times-cons, times-contained}
 use Rattle.abi_calls.specs.declared.reply.Reply.{Reply}
 use Rattle.abi_calls.specs.declared.reply.Reply.TheVariants.{Done}
 use Rattle.abi_calls.specs.Objects.{object_at, running, is_thread_of, is_some_thread, with_lists}
-use Rattle.abi_calls.specs.World.{World, with_objects, on_objects}
-use Rattle.abi_calls.specs.Abi.{Abi, answer}
 use Rattle.abi_calls.specs.Sound.{IsSound}
 use Rattle.mono_model.specs.Machine.{made_ready}
 use Rattle.mono_model.specs.Starting.{Runs, begun}
@@ -23,12 +21,13 @@ use Rattle.libos_state.specs.declared.cont.Stage.TheVariants.{StartThread}
 use Rattle.libos_state.specs.declared.notes.Kind.TheVariants.{ConIn, ConOut, ConErr}
 use Rattle.libos_state.specs.declared.notes.ThreadNote.{ThreadNote}
 use Rattle.libos_state.specs.declared.state.LibOs.{LibOs}
-use Rattle.libos_state.specs.Records.{Visible, visible, with_visible, base, tids_of, lists_of, target_of, waiter_of, is_set, thread_with}
+use Rattle.libos_state.specs.Records.{View, Visible, visible, with_visible, base, tids_of, lists_of, target_of, waiter_of, is_set, thread_with}
 use Rattle.libos_state.specs.Pending.{asked, handle, file_or_child}
 use Rattle.libos_state.specs.Answered.{answered_at, first_thread}
 use Rattle.libos_state.specs.Meaning.{settles, unstarted, child_memory, child_context}
 use Rattle.libos_state.specs.Named.{Named, AProcess, AThread, AnEvent, AConsole, is_of, recorded, named_as, kinds_at, times_named}
 use Rattle.libos_state.specs.Fits.{FitsStage, FitsObjects, FitsRecords, is_to_name}
+use Rattle.libos_state.proofs.Alone.{Decides-fits_records}
 use Rattle.libos_state.proofs.Holds.{HoldsQuietly}
 use Rattle.libos_state.proofs.Rows.{quietly_by_row}
 use Rattle.libos_state.proofs.Naming.{FitsObjects-same, kinds-kept, thread_of, times_named-append}
@@ -36,6 +35,7 @@ use Rattle.libos_state.proofs.Bases.{base-with_ready}
 use Rattle.libos_state.proofs.Resuming.{resumed_objects, row_resumed}
 use Rattle.libos_state.proofs.Handles.{recorded-start}
 use Rattle.libos_state.proofs.Starts.{start_of}
+use Rattle.libos_state.proofs.Views.{AnswersAs, answer, on_objects, with_objects}
 
 -- ---- what is kept is recorded
 
@@ -68,17 +68,7 @@ module _ (os : LibOs) (c : Cont) (v : Visible) (fits : FitsStage os v.objects c 
   kept = named_as c.handles (kinds_at StartThread)
 
   begun_records : FitsRecords up
-  begun_records = record {
-    pids = refl;
-    tids = refl;
-    ids = refl;
-    given_pids = refl;
-    given_tids = refl;
-    processes = refl;
-    threads = refl;
-    described = refl;
-    access = refl;
-  }
+  begun_records = (Decides-fits_records up).0 refl
 
   begun_once : (q : ℕ) → times_named q (recorded up ++ [])
       ≡ cond (is_to_name None (object_at v.objects q)) 1 0
@@ -188,9 +178,9 @@ module _ (os : LibOs) (c : Cont) (v : Visible) (fits : FitsStage os v.objects c 
         lists = lists_before i;
       }) 1)
 
-pub keeps_start_thread : (os : LibOs) (c : Cont) (w w' : World) (r : Reply)
+pub keeps_start_thread : (os : LibOs) (c : Cont) (w w' : View) (r : Reply)
     → FitsStage os w.objects c StartThread → IsSound w.objects
-    → Abi w (asked os c StartThread) r w' → HoldsQuietly os c StartThread w r w'
+    → AnswersAs w (asked os c StartThread) r w' → HoldsQuietly os c StartThread w r w'
 keeps_start_thread os c w w' r fits sound abi =
     let v = visible w in
     let t = handle c 4 in

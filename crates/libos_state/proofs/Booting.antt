@@ -1,5 +1,5 @@
 -- The start of a run: it begins in a world without objects.
-use Rattle.std.specs.Prelude.{◌≡◌, ℕ, ◌≤◌, true, cond, nat_le, List, ◌∷◌, length}
+use Rattle.std.specs.Prelude.{◌≡◌, ℕ, ◌≤◌, true, cond, nat_le, List, length}
 use Rattle.std.specs.List.{list_all}
 use Rattle.std.specs.FinMap.{get}
 use Rattle.std.specs.Ordering.{nat_cmp}
@@ -7,7 +7,7 @@ use Rattle.std.specs.declared.option.Option.TheVariants.{None}
 use Rattle.std.proofs.Common.{refl, sym, ap, ◌∙◌, arith, le-leb}
 use Rattle.std.proofs.lemmas.Bool.{and_from}
 use Rattle.bas_items.proofs.NumberMaps.{get-empty}
-use Rattle.abi_calls.specs.declared.settings.Settings.{Settings}
+use Rattle.turn_sched.specs.declared.settings.Settings.{Settings}
 use Rattle.abi_calls.specs.Objects.{Live, Objects}
 use Rattle.abi_calls.specs.Processes.{is_acceptable}
 use Rattle.abi_calls.specs.Fresh.{IsFreshWorld}

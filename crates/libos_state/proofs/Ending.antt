@@ -15,9 +15,7 @@ use Rattle.abi_calls.specs.declared.reply.Reply.{Reply}
 use Rattle.abi_calls.specs.declared.reply.Reply.TheVariants.{Done}
 use Rattle.abi_calls.specs.declared.threads.Upcall.{Upcall}
 use Rattle.abi_calls.specs.Objects.{Object, Objects, object_at, running, is_thread_of, with_object, without_handles}
-use Rattle.abi_calls.specs.World.{World, on_objects}
 use Rattle.abi_calls.specs.Processes.{close_row, process_exit_row, without_threads}
-use Rattle.abi_calls.specs.Abi.{Abi}
 use Rattle.abi_calls.specs.Sound.{IsSound}
 use Rattle.abi_calls.proofs.SoundChanges.{object_at-without_handles, object_at-left}
 use Rattle.bas_items.proofs.NumberMaps.{get-insert, get-insert-same, get-insert-other}
@@ -27,7 +25,7 @@ use Rattle.libos_state.specs.declared.cont.Stage.TheVariants.{CloseHandles, Exit
 use Rattle.libos_state.specs.declared.notes.ProcessNote.{ProcessNote}
 use Rattle.libos_state.specs.declared.notes.ThreadNote.{ThreadNote}
 use Rattle.libos_state.specs.declared.state.LibOs.{LibOs}
-use Rattle.libos_state.specs.Records.{Visible, visible, with_visible, base, process_named, process_with, thread_named, process_if, process_seen, thread_seen, memory_of_object, context_of, is_set}
+use Rattle.libos_state.specs.Records.{View, Visible, visible, with_visible, base, process_named, process_with, thread_named, process_if, process_seen, thread_seen, memory_of_object, context_of, is_set}
 use Rattle.libos_state.specs.Pending.{asked, upcall_in, handle, number}
 use Rattle.libos_state.specs.Answered.{goes_on, ends, service_closing}
 use Rattle.libos_state.specs.Meaning.{settles, meaning, meant_settled}
@@ -39,6 +37,7 @@ use Rattle.libos_state.proofs.Going.{FitsRecords-with_service, FitsObjects-with_
 use Rattle.libos_state.proofs.Naming.{is_named, find-passes, list_all-find, list_all-counted, list_all-except, eqb-flipped, times_recorded, times_named-recorded, times_named-append, times_recorded-most, KindsRecorded, kinds-lists, process_with-found, kinds-kept, unrecorded-kept, unrecorded-free, times_named-cons, FitsObjects-closed, ThreadOf, thread_of, RunningOf, running_of}
 use Rattle.libos_state.proofs.Bases.{processes_of-kept, threads_of-kept, base-without_handles}
 use Rattle.libos_state.proofs.Serving.{trap_of, on_trap, named_as-no_kinds, FitsTrap-with_service}
+use Rattle.libos_state.proofs.Views.{AnswersAs, on_objects}
 
 -- What is kept to be closed.
 abbrev pub to_close : List ℕ → List Named
@@ -145,7 +144,7 @@ module _ (os : LibOs) (c : Cont) (v : Visible) (h : ℕ) (hs : List ℕ) (are : 
       (λ q same. ap (λ k. times_named k (recorded os)) (eqb-true q h same) ∙ h_unrecorded) v
       (unrecorded-free os v.objects (to_close (h ∷ hs)) (Some u.process) kept_is 0 sound.positive)
 
-closes : (os : LibOs) (c : Cont) (w w' : World) (r : Reply) (hs : List ℕ) → c.handles ≡ hs → FitsStage os w.objects c CloseHandles → IsSound w.objects → Abi w (asked os c CloseHandles) r w' → Holds os c CloseHandles w r w'
+closes : (os : LibOs) (c : Cont) (w w' : View) (r : Reply) (hs : List ℕ) → c.handles ≡ hs → FitsStage os w.objects c CloseHandles → IsSound w.objects → AnswersAs w (asked os c CloseHandles) r w' → Holds os c CloseHandles w r w'
 closes os c w w' r [] are fits sound abi = absurd (let some = fits.lists.handles in let none = ap length are in omega (arith, some, none))
 closes os c w w' r (h ∷ hs) are fits sound abi =
     let v : Visible = visible w in
@@ -158,7 +157,7 @@ closes os c w w' r (h ∷ hs) are fits sound abi =
       means = closing_means os (with_visible v (o' os c v h hs are fits sound)) c hs ∙ ap (λ m. settles (Runs m)) (closed_base os c v h hs are fits sound);
     }))
 
-pub keeps_close_handles : (os : LibOs) (c : Cont) (w w' : World) (r : Reply) → FitsStage os w.objects c CloseHandles → IsSound w.objects → Abi w (asked os c CloseHandles) r w' → Holds os c CloseHandles w r w'
+pub keeps_close_handles : (os : LibOs) (c : Cont) (w w' : View) (r : Reply) → FitsStage os w.objects c CloseHandles → IsSound w.objects → AnswersAs w (asked os c CloseHandles) r w' → Holds os c CloseHandles w r w'
 keeps_close_handles os c w w' r fits sound abi = closes os c w w' r c.handles refl fits sound abi
 
 -- ---- the process exits
@@ -368,7 +367,7 @@ module _ (os : LibOs) (c : Cont) (v : Visible) (fits : FitsStage os v.objects c 
       (λ q ends. omega (arith, ends_unrecorded q ends, times_named-append q (recorded os) [])) v
       (unrecorded-free os v.objects [] (Some p) objects_are 0 sound.positive)
 
-pub keeps_exit_process : (os : LibOs) (c : Cont) (w w' : World) (r : Reply) → FitsStage os w.objects c ExitProcess → IsSound w.objects → Abi w (asked os c ExitProcess) r w' → Holds os c ExitProcess w r w'
+pub keeps_exit_process : (os : LibOs) (c : Cont) (w w' : View) (r : Reply) → FitsStage os w.objects c ExitProcess → IsSound w.objects → AnswersAs w (asked os c ExitProcess) r w' → Holds os c ExitProcess w r w'
 keeps_exit_process os c w w' r fits sound abi =
     let v : Visible = visible w in
     let trap = trap_of os w.objects c.event ExitProcess refl fits.event in

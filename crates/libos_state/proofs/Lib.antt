@@ -1,3 +1,4 @@
+pub mod Alone
 pub mod Answering
 pub mod Bases
 pub mod Beginning
@@ -6,6 +7,7 @@ pub mod Closing
 pub mod Distinct
 pub mod Ending
 pub mod Entering
+mod Examples
 pub mod Filtered
 pub mod Going
 pub mod Handles
@@ -18,6 +20,7 @@ pub mod Naming
 pub mod Opening
 pub mod Pages
 pub mod Pieces
+pub mod Programs
 pub mod Reading
 pub mod Resuming
 pub mod Rows
@@ -26,6 +29,7 @@ pub mod Stacking
 pub mod Stages
 pub mod Starts
 pub mod Turning
+pub mod Views
 pub mod Waking
 pub mod Worked
 pub mod Writing

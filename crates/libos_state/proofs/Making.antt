@@ -1,35 +1,33 @@
 -- The process is made, then its thread and the thread's event.
 use Rattle.std.specs.Prelude.{◌≡◌, ℕ, ◌+◌, ◌<◌, ◌==◌, true, false, if◌then◌else◌, nat_le, List, [], ◌∷◌, ◌++◌, length, slice_index}
 use Rattle.std.specs.FinMap.{empty}
+use Rattle.std.specs.Option.{option_map}
 use Rattle.std.specs.declared.option.Option.TheVariants.{None, Some}
-use Rattle.std.specs.declared.result.Result.TheVariants.{Ok, Err}
 use Rattle.std.proofs.Common.{refl, sym, ap, subst, ◌∙◌, arith, eq-eqb}
 use Rattle.std.proofs.lemmas.Bool.{or_left, or_right}
 use Rattle.std.proofs.lemmas.List.{length_push, get_or_push, get_or_append_left}
 use Rattle.std.proofs.lemmas.List.Folds.{list_any-append}
 use Rattle.std.proofs.lemmas.Option.{none-some}
 use Rattle.rv_core.specs.declared.context.Context.{Context}
-use Rattle.guest_space.specs.Space.{Space}
+use Rattle.guest_space.specs.Space.{Space, Frame}
 use Rattle.turn_sched.specs.Lists.{contains}
 use Rattle.abi_calls.specs.declared.limits.TheConstants.{MOST_PROCESSES, MOST_THREADS}
 use Rattle.abi_calls.specs.declared.object.Object.TheVariants.{Process, Thread, Event}
 use Rattle.abi_calls.specs.declared.reply.Reply.{Reply}
 use Rattle.abi_calls.specs.declared.reply.Reply.TheVariants.{Handle, NoRoom}
 use Rattle.abi_calls.specs.Objects.{Object, Objects, object_at, running, number_of, is_process, is_thread, is_thread_of, with_object}
-use Rattle.abi_calls.specs.World.{World, with_objects, on_objects}
 use Rattle.abi_calls.specs.Processes.{process_create_row}
 use Rattle.abi_calls.specs.Threads.{with_thread, thread_create_row}
-use Rattle.abi_calls.specs.Abi.{Abi, answer, new_number}
+use Rattle.abi_calls.specs.Abi.{new_number}
 use Rattle.abi_calls.specs.Sound.{IsSound}
-use Rattle.bas_items.proofs.NumberMaps.{get-insert-same, get-insert-other}
-use Rattle.mono_model.specs.Program.{plain_program}
-use Rattle.mono_model.specs.declared.ProgramRefusal.TheVariants.{Later}
-use Rattle.mono_model.specs.Starting.{begun_from, start_context, loaded_run, stacked}
+use Rattle.bas_items.proofs.NumberMaps.{get-empty, get-insert-same, get-insert-other}
+use Rattle.elf_loader.proofs.ImageLaws.{loaded-accepted}
+use Rattle.mono_model.specs.Starting.{begun_from, start_context, loaded, stacked}
 use Rattle.libos_state.specs.declared.cont.Cont.{Cont}
 use Rattle.libos_state.specs.declared.cont.Stage.TheVariants.{CreateProcess, AllocateRun, CreateThread, CreateEvent, StartThread}
 use Rattle.libos_state.specs.declared.state.LibOs.{LibOs}
-use Rattle.libos_state.specs.Records.{visible, with_visible, memory_of_object, context_of}
-use Rattle.libos_state.specs.Pending.{arguments, asked, handle, file_or_child, run_in}
+use Rattle.libos_state.specs.Records.{View, visible, with_visible, memory_of_object, context_of}
+use Rattle.libos_state.specs.Pending.{arguments, asked, handle, file_or_child, program_in, runs_in}
 use Rattle.libos_state.specs.Meaning.{settles, unstarted, begins, begins_with}
 use Rattle.libos_state.specs.Named.{AProcess, AThread, AnEvent, named_as, consoles}
 use Rattle.libos_state.specs.Fits.{FitsStage, FitsObjects}
@@ -37,7 +35,9 @@ use Rattle.libos_state.proofs.Holds.{HoldsQuietly}
 use Rattle.libos_state.proofs.Rows.{quietly_by_row, fresh_handle}
 use Rattle.libos_state.proofs.Naming.{FitsObjects-new, FitsObjects-same, named_as-push, thread_of}
 use Rattle.libos_state.proofs.Handles.{list_all-named_as, recorded-start, is_no_process, is_no_thread, excludes-process, excludes-thread, number_of-excluded}
+use Rattle.libos_state.proofs.Programs.{some_runs}
 use Rattle.libos_state.proofs.Starts.{start_of, start_goes_on}
+use Rattle.libos_state.proofs.Views.{AnswersAs, answer, on_objects, with_objects}
 
 -- One more handle, of a new object, behind so many: those before it name what they named.
 record MadeBehind (o : Objects) (handles : List ℕ) (count h : ℕ) (x : Object) : Type 0 where
@@ -71,9 +71,9 @@ process_row : (o : Objects) (h : ℕ) → number_of is_process o.live ≡ 0
 process_row o h none = ap {B = Reply × Objects} (λ n. if nat_le MOST_PROCESSES n then (NoRoom, o)
     else (Handle h, with_object o h (Process empty None))) none
 
-pub keeps_create_process : (os : LibOs) (c : Cont) (w w' : World) (r : Reply)
+pub keeps_create_process : (os : LibOs) (c : Cont) (w w' : View) (r : Reply)
     → FitsStage os w.objects c CreateProcess → IsSound w.objects
-    → Abi w (asked os c CreateProcess) r w' → HoldsQuietly os c CreateProcess w r w'
+    → AnswersAs w (asked os c CreateProcess) r w' → HoldsQuietly os c CreateProcess w r w'
 keeps_create_process os c w w' r fits sound abi =
     let h = new_number r in
     let child : Object = Process empty None in
@@ -95,11 +95,11 @@ keeps_create_process os c w w' r fits sound abi =
     let v = with_visible (visible w) o in
     quietly_by_row os c CreateProcess w w' r (Handle h) o abi row (record {
       fits = start_goes_on os w.objects c CreateProcess refl fits o AllocateRun c.bytes handles
-          (0 ∷ []) refl start.current objects (λ other. absurd (cc)) made.long refl (fits.kept, refl)
-          (record { memory = empty; child = made.there; holds = refl });
-      means = ap (λ x. settles (begins_with v c (stacked (loaded_run (memory_of_object x) (run_in c)) (arguments c)))) made.there
-          ∙ sym (ap (λ b. settles (begun_from (unstarted (visible w)) (arguments c)
-          (if b then Ok (plain_program c.bytes) else Err Later))) fits.kept);
+          (0 ∷ []) refl start.current objects (λ other. absurd (cc)) made.long refl
+          (record { program = fits.kept; among = some_runs c.bytes fits.kept })
+          (record { memory = empty; child = made.there; holds = λ q. ap (option_map (λ (f : Frame). f.rights)) (get-empty q) });
+      means = ap (λ x. settles (begins_with v c (stacked (loaded (memory_of_object x) (runs_in c)) (arguments c)))) made.there
+          ∙ sym (ap (λ program. settles (begun_from (unstarted (visible w)) (arguments c) program)) (loaded-accepted c.bytes fits.kept));
     })
 
 -- ---- a thread
@@ -117,13 +117,13 @@ contains_last : (xs : List ℕ) (h : ℕ) → contains (xs ++ h ∷ []) h ≡ tr
 contains_last xs h = list_any-append (λ x. x == h) xs (h ∷ [])
     ∙ or_right (contains xs h) (contains (h ∷ []) h) (or_left (h == h) false (eq-eqb h h refl))
 
-pub keeps_create_thread : (os : LibOs) (c : Cont) (w w' : World) (r : Reply)
+pub keeps_create_thread : (os : LibOs) (c : Cont) (w w' : View) (r : Reply)
     → FitsStage os w.objects c CreateThread → IsSound w.objects
-    → Abi w (asked os c CreateThread) r w' → HoldsQuietly os c CreateThread w r w'
+    → AnswersAs w (asked os c CreateThread) r w' → HoldsQuietly os c CreateThread w r w'
 keeps_create_thread os c w w' r fits sound abi =
     let h = new_number r in
     let p = file_or_child c in
-    let context = start_context (plain_program c.bytes) (arguments c) in
+    let context = start_context (program_in c) (arguments c) in
     let thread : Object = Thread p context in
     let o = with_thread w.objects h p context in
     let handles = c.handles ++ h ∷ [] in
@@ -162,9 +162,9 @@ keeps_create_thread os c w w' r fits sound abi =
 
 -- ---- the thread's event
 
-pub keeps_create_event : (os : LibOs) (c : Cont) (w w' : World) (r : Reply)
+pub keeps_create_event : (os : LibOs) (c : Cont) (w w' : View) (r : Reply)
     → FitsStage os w.objects c CreateEvent → IsSound w.objects
-    → Abi w (asked os c CreateEvent) r w' → HoldsQuietly os c CreateEvent w r w'
+    → AnswersAs w (asked os c CreateEvent) r w' → HoldsQuietly os c CreateEvent w r w'
 keeps_create_event os c w w' r fits sound abi =
     let h = new_number r in
     let event : Object = Event false in

@@ -2,7 +2,6 @@
 use Rattle.std.specs.Prelude.{◌≡◌, ℕ, ◌-◌, ◌≤◌, Bool, true, false, ◌==◌, if◌then◌else◌, nat_lt, nat_le, List, [], ◌∷◌, ◌++◌, length, take, drop, min, slice_index}
 use Rattle.std.specs.declared.option.Option.{Option}
 use Rattle.std.specs.declared.option.Option.TheVariants.{None, Some}
-use Rattle.std.specs.declared.result.Result.TheVariants.{Ok, Err}
 use Rattle.std.proofs.Common.{refl, sym, ap, subst, ◌∙◌, arith, le-ltb, eqb-true, leb-true, leb-false, append-nil, length-append, length-take}
 use Rattle.std.proofs.lemmas.Bool.{eqb-false}
 use Rattle.std.proofs.lemmas.List.{nil_from_length, take_all}
@@ -12,20 +11,19 @@ use Rattle.abi_calls.specs.declared.object.Object.TheVariants.{Stream}
 use Rattle.abi_calls.specs.declared.reply.Reply.{Reply}
 use Rattle.abi_calls.specs.declared.reply.Reply.TheVariants.{Done, Bytes, Length, TooBig}
 use Rattle.abi_calls.specs.Objects.{Object, Objects, object_at, without_handles}
-use Rattle.abi_calls.specs.World.{World, Answer, with_objects, on_objects}
 use Rattle.abi_calls.specs.Streams.{stream_of, stream_length_row, stream_read_row}
 use Rattle.abi_calls.specs.Processes.{close_row}
-use Rattle.abi_calls.specs.Abi.{Abi, answer}
 use Rattle.abi_calls.specs.Sound.{IsSound}
 use Rattle.turn_sched.specs.Lists.{unless_ended}
-use Rattle.mono_model.specs.Program.{is_plain, plain_program}
-use Rattle.mono_model.specs.declared.ProgramRefusal.TheVariants.{Later}
+use Rattle.elf_loader.specs.declared.ElfError.{ElfError}
+use Rattle.elf_loader.specs.Image.{program_of, unless_refused}
+use Rattle.elf_loader.specs.Refusal.{refusal}
 use Rattle.mono_model.specs.Starting.{started_with, begun_from}
 use Rattle.libos_state.specs.declared.cont.Cont.{Cont}
 use Rattle.libos_state.specs.declared.cont.Stage.TheVariants.{ProgramLength, ReadProgram, CloseProgram, CreateProcess}
 use Rattle.libos_state.specs.declared.state.Boot.TheVariants.{BadProgram}
 use Rattle.libos_state.specs.declared.state.LibOs.{LibOs}
-use Rattle.libos_state.specs.Records.{visible, with_visible}
+use Rattle.libos_state.specs.Records.{View, visible, with_visible}
 use Rattle.libos_state.specs.Pending.{number, arguments, asked, file_or_child, PIECE}
 use Rattle.libos_state.specs.Answered.{goes_on, starting, with_step, load_step}
 use Rattle.libos_state.specs.Meaning.{settles, unstarted, name_in, program_file, meant_at}
@@ -37,10 +35,13 @@ use Rattle.libos_state.proofs.Naming.{FitsObjects-closed}
 use Rattle.libos_state.proofs.Handles.{file_there, named_as-fourth}
 use Rattle.libos_state.proofs.Starts.{start_of, start_goes_on, start_stops}
 use Rattle.libos_state.proofs.Pieces.{read_and_rest, nothing_left, piece_is_all}
+use Rattle.abi_calls.specs.World as worlds
+use Rattle.abi_calls.specs.World.{World}
+use Rattle.libos_state.proofs.Views.{world, on_world, Answer, AnswersAs, answer, on_objects, with_objects}
 
 -- ---- its length is asked for
 
-length_stands : (os : LibOs) (c : Cont) (w : World) (size : ℕ) (b : Bool)
+length_stands : (os : LibOs) (c : Cont) (w : View) (size : ℕ) (b : Bool)
     → FitsStage os w.objects c ProgramLength → length (program_file (visible w) c) ≡ size
     → (size == 0) ≡ b
     → Stands (goes_on os (if b then starting c CloseProgram [] c.handles []
@@ -68,14 +69,14 @@ length_stands os c w size false fits long some =
       means = ap (λ x. settles (started_with (unstarted v) (arguments c) x)) all;
     }
 
-pub keeps_program_length : (os : LibOs) (c : Cont) (w w' : World) (r : Reply)
+pub keeps_program_length : (os : LibOs) (c : Cont) (w w' : View) (r : Reply)
     → FitsStage os w.objects c ProgramLength → IsSound w.objects
-    → Abi w (asked os c ProgramLength) r w' → HoldsQuietly os c ProgramLength w r w'
+    → AnswersAs w (asked os c ProgramLength) r w' → HoldsQuietly os c ProgramLength w r w'
 keeps_program_length os c w w' r fits sound abi =
     let size = length (program_file (visible w) c) in
     let file = file_there os w.objects c.handles fits.lists.handles fits.objects in
     let row : answer w (asked os c ProgramLength) r ≡ (Length size, w) =
-    ap (stream_length_row w) file.is
+    ap (λ x. on_world w (stream_length_row (world w) x)) file.is
     ∙ ap {B = Answer} (λ x. (Length (length (file_bytes w.contents.files (name_in (stream_of x)))), w))
     (sym file.is) in
     quietly_by_row os c ProgramLength w w' r (Length size) w.objects abi row
@@ -83,14 +84,14 @@ keeps_program_length os c w w' r fits sound abi =
 
 -- ---- a piece is read
 
-abbrev left_of : World → Cont → List ℕ
+abbrev left_of : View → Cont → List ℕ
 left_of w c = drop (length c.bytes) (program_file (visible w) c)
 
-abbrev piece_of : World → Cont → List ℕ
+abbrev piece_of : View → Cont → List ℕ
 piece_of w c = take (min PIECE (number c 0 - length c.bytes)) (left_of w c)
 
 -- The file is closed next, or more of it is read.
-module _ (os : LibOs) (c : Cont) (w : World) (fits : FitsStage os w.objects c ReadProgram) where
+module _ (os : LibOs) (c : Cont) (w : View) (fits : FitsStage os w.objects c ReadProgram) where
   size_kept : number c 0 ≡ fits.kept.size
   size_kept = ap (λ ns. slice_index ns 0) fits.kept.kept
 
@@ -154,30 +155,30 @@ row_read : (w : World) (offset count : ℕ) (r : Reply) (name : List ℕ) (x : O
 row_read w offset count r name x small is =
     let few : nat_lt 65536 count ≡ false = le-ltb 65536 count small in
     ap (stream_read_row w offset count r) is
-    ∙ ap {B = Answer} (λ b. if b then (TooBig, w)
+    ∙ ap {B = worlds.Answer} (λ b. if b then (TooBig, w)
     else (Bytes (take count (drop offset (file_bytes w.contents.files name))), w)) few
-    ∙ ap {B = Answer} (λ y. (
+    ∙ ap {B = worlds.Answer} (λ y. (
       Bytes (take count (drop offset
           (file_bytes w.contents.files (name_in (stream_of y))))),
       w,
     )) (sym is)
 
-pub keeps_read_program : (os : LibOs) (c : Cont) (w w' : World) (r : Reply)
+pub keeps_read_program : (os : LibOs) (c : Cont) (w w' : View) (r : Reply)
     → FitsStage os w.objects c ReadProgram → IsSound w.objects
-    → Abi w (asked os c ReadProgram) r w' → HoldsQuietly os c ReadProgram w r w'
+    → AnswersAs w (asked os c ReadProgram) r w' → HoldsQuietly os c ReadProgram w r w'
 keeps_read_program os c w w' r fits sound abi =
     let count = min PIECE (number c 0 - length c.bytes) in
     let file = file_there os w.objects c.handles fits.lists.handles fits.objects in
     let row : answer w (asked os c ReadProgram) r ≡ (Bytes (piece_of w c), w) =
-    row_read w (length c.bytes) count r file.name (object_at w.objects (file_or_child c))
-    (omega arith) file.is in
+    ap (on_world w) (row_read (world w) (length c.bytes) count r file.name
+    (object_at w.objects (file_or_child c)) (omega arith) file.is) in
     quietly_by_row os c ReadProgram w w' r (Bytes (piece_of w c)) w.objects abi row
     (piece_stands os c w fits (length (piece_of w c) == 0)
     (nat_le (number c 0) (length (c.bytes ++ piece_of w c))) refl refl)
 
 -- ---- the file is closed, and its bytes are a program or none
 
-module _ (os : LibOs) (c : Cont) (w : World) (fits : FitsStage os w.objects c CloseProgram) where
+module _ (os : LibOs) (c : Cont) (w : View) (fits : FitsStage os w.objects c CloseProgram) where
   abbrev closed : Objects
   closed = without_handles w.objects (λ k. k == file_or_child c)
 
@@ -196,25 +197,25 @@ module _ (os : LibOs) (c : Cont) (w : World) (fits : FitsStage os w.objects c Cl
       (subst (λ names. FitsObjects os w.objects names None)
       (named_as-fourth c.handles AFile fits.lists.handles) fits.objects))
 
-  closed_stands : (plain : Bool) → is_plain c.bytes ≡ plain
-      → Stands (with_step os (load_step c (if plain then Ok (plain_program c.bytes) else Err Later)))
+  closed_stands : (refused : Option ElfError) → refusal c.bytes ≡ refused
+      → Stands (with_step os (load_step c (unless_refused refused (program_of c.bytes))))
       (with_visible (visible w) closed) (meant_at os (visible w) c CloseProgram)
-  closed_stands true plain = record {
+  closed_stands None taken = record {
     fits = start_goes_on os w.objects c CloseProgram refl fits closed CreateProcess c.bytes
         (take 3 c.handles) [] refl closed_current closed_objects (λ other. absurd (cc)) three_left
-        refl plain tt;
+        refl taken tt;
     means = refl;
   }
-  closed_stands false other = record {
-    fits = start_stops os w.objects c CloseProgram refl fits closed (BadProgram Later)
+  closed_stands (Some cause) is = record {
+    fits = start_stops os w.objects c CloseProgram refl fits closed (BadProgram cause)
         (take 3 c.handles) closed_current three_left closed_objects;
-    means = sym (ap (λ b. settles (begun_from (unstarted (visible w)) (arguments c)
-        (if b then Ok (plain_program c.bytes) else Err Later))) other);
+    means = sym (ap (λ refused. settles (begun_from (unstarted (visible w)) (arguments c)
+        (unless_refused refused (program_of c.bytes)))) is);
   }
 
-pub keeps_close_program : (os : LibOs) (c : Cont) (w w' : World) (r : Reply)
+pub keeps_close_program : (os : LibOs) (c : Cont) (w w' : View) (r : Reply)
     → FitsStage os w.objects c CloseProgram → IsSound w.objects
-    → Abi w (asked os c CloseProgram) r w' → HoldsQuietly os c CloseProgram w r w'
+    → AnswersAs w (asked os c CloseProgram) r w' → HoldsQuietly os c CloseProgram w r w'
 keeps_close_program os c w w' r fits sound abi =
     let h = file_or_child c in
     let o = without_handles w.objects (λ k. k == h) in
@@ -222,4 +223,4 @@ keeps_close_program os c w w' r fits sound abi =
     let row : answer w (asked os c CloseProgram) r ≡ (Done, with_objects w o) =
     ap (λ x. on_objects w (close_row w.objects h x)) file.is in
     quietly_by_row os c CloseProgram w w' r Done o abi row
-    (closed_stands os c w fits (is_plain c.bytes) refl)
+    (closed_stands os c w fits (refusal c.bytes) refl)

@@ -10,9 +10,7 @@ use Rattle.abi_calls.specs.declared.reply.Reply.{Reply}
 use Rattle.abi_calls.specs.declared.reply.Reply.TheVariants.{Done, Busy}
 use Rattle.abi_calls.specs.declared.threads.Upcall.{Upcall}
 use Rattle.abi_calls.specs.Objects.{Objects, object_at, is_thread_of, with_object, with_lists}
-use Rattle.abi_calls.specs.World.{World, on_objects}
 use Rattle.abi_calls.specs.Threads.{thread_resume_row, thread_context_row}
-use Rattle.abi_calls.specs.Abi.{Abi}
 use Rattle.abi_calls.specs.Sound.{IsSound}
 use Rattle.bas_items.proofs.NumberMaps.{get-insert-same}
 use Rattle.mono_model.specs.Machine.{Mono, with_context, made_ready}
@@ -21,7 +19,7 @@ use Rattle.mono_model.specs.Starting.{Runs}
 use Rattle.libos_state.specs.declared.cont.Cont.{Cont}
 use Rattle.libos_state.specs.declared.cont.Stage.TheVariants.{SetContext, Resume}
 use Rattle.libos_state.specs.declared.state.LibOs.{LibOs}
-use Rattle.libos_state.specs.Records.{Visible, visible, with_visible, base}
+use Rattle.libos_state.specs.Records.{View, Visible, visible, with_visible, base}
 use Rattle.libos_state.specs.Pending.{asked, upcall_in}
 use Rattle.libos_state.specs.Answered.{goes_on, ends}
 use Rattle.libos_state.specs.Meaning.{caller_in, settles, meant_settled}
@@ -33,6 +31,7 @@ use Rattle.libos_state.proofs.Going.{FitsRecords-with_service, FitsObjects-with_
 use Rattle.libos_state.proofs.Naming.{Alike, Alike-thread, FitsObjects-same, FitsObjects-changed, ThreadOf, thread_of, Trapped, trapped, caller_of-trapped, times_named-most}
 use Rattle.libos_state.proofs.Serving.{trap_of, on_trap, named_as-no_kinds, current_rests, returns-recorded}
 use Rattle.libos_state.proofs.Bases.{base-with_context, base-with_ready}
+use Rattle.libos_state.proofs.Views.{AnswersAs, on_objects}
 
 -- ---- the rows, where the thread rests
 
@@ -103,7 +102,7 @@ module _ (os : LibOs) (c : Cont) (v : Visible) (fits : FitsStage os v.objects c 
       base-with_context os v u.thread u.process at.thread c.next fits.records (omega (arith, times_named-most os v.objects (named_as c.handles []) None fits.objects u.thread)) at.found
       ∙ (λ i. with_context (base os v) ((sym (ap (λ (x : Caller). x.thread) who)) i) ((sym (ap (λ (x : Caller). x.process) who ∙ at.links.pid)) i) c.next)
 
-pub keeps_set_context : (os : LibOs) (c : Cont) (w w' : World) (r : Reply) → FitsStage os w.objects c SetContext → IsSound w.objects → Abi w (asked os c SetContext) r w' → Holds os c SetContext w r w'
+pub keeps_set_context : (os : LibOs) (c : Cont) (w w' : View) (r : Reply) → FitsStage os w.objects c SetContext → IsSound w.objects → AnswersAs w (asked os c SetContext) r w' → Holds os c SetContext w r w'
 keeps_set_context os c w w' r fits sound abi =
     let v : Visible = visible w in
     let u : Upcall = upcall_in c.event in
@@ -143,7 +142,7 @@ module _ (os : LibOs) (c : Cont) (v : Visible) (fits : FitsStage os v.objects c 
   resumed_base = base-with_ready os v trap_u.thread resume_at.thread resume_at.found
       ∙ ap (made_ready (base os v)) (sym (ap (λ (x : Caller). x.thread) (caller_of-trapped os v.objects trap_u resume_at)))
 
-pub keeps_resume : (os : LibOs) (c : Cont) (w w' : World) (r : Reply) → FitsStage os w.objects c Resume → IsSound w.objects → Abi w (asked os c Resume) r w' → Holds os c Resume w r w'
+pub keeps_resume : (os : LibOs) (c : Cont) (w w' : View) (r : Reply) → FitsStage os w.objects c Resume → IsSound w.objects → AnswersAs w (asked os c Resume) r w' → Holds os c Resume w r w'
 keeps_resume os c w w' r fits sound abi =
     let v : Visible = visible w in
     let u : Upcall = upcall_in c.event in

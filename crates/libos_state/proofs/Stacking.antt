@@ -8,39 +8,38 @@ use Rattle.guest_space.proofs.Filling.{first_held-none, first_fault-none}
 use Rattle.abi_calls.specs.declared.object.Object.TheVariants.{Process}
 use Rattle.abi_calls.specs.declared.reply.Reply.{Reply}
 use Rattle.abi_calls.specs.declared.reply.Reply.TheVariants.{Done}
-use Rattle.abi_calls.specs.World.{World, with_objects, on_objects}
 use Rattle.abi_calls.specs.Memory.{with_pages}
-use Rattle.abi_calls.specs.Abi.{Abi, answer}
 use Rattle.abi_calls.specs.Sound.{IsSound}
 use Rattle.bas_items.proofs.NumberMaps.{get-insert-same}
-use Rattle.mono_model.specs.Program.{page_count}
 use Rattle.mono_model.specs.Starting.{STACK_PAGE, STACK_PAGES, stack_pointer, argument_block, stacked, with_block, filled_from}
 use Rattle.mono_model.proofs.Sizes.{block_stands}
 use Rattle.libos_state.specs.declared.cont.Cont.{Cont}
 use Rattle.libos_state.specs.declared.cont.Stage.TheVariants.{AllocateStack, WriteBlock, CreateThread}
 use Rattle.libos_state.specs.declared.state.LibOs.{LibOs}
-use Rattle.libos_state.specs.Records.{visible}
+use Rattle.libos_state.specs.Records.{View, visible}
 use Rattle.libos_state.specs.Pending.{arguments, asked, file_or_child}
 use Rattle.libos_state.specs.Meaning.{settles, begins_with}
 use Rattle.libos_state.specs.Named.{kept_names}
-use Rattle.libos_state.specs.Fits.{FitsStage}
+use Rattle.libos_state.specs.Fits.{FitsStage, extents_in}
 use Rattle.libos_state.proofs.Holds.{HoldsQuietly}
 use Rattle.libos_state.proofs.Rows.{quietly_by_row}
-use Rattle.libos_state.proofs.Pages.{pages_stacked, has_stack, has_no_stack, allocate_row, write_row, child_was, child_is, FitsObjects-pages}
+use Rattle.libos_state.proofs.Pages.{pages_made, has_first, allocate_row, write_row, child_was, child_is, FitsObjects-pages}
 use Rattle.libos_state.proofs.Starts.{start_of, names_of, start_goes_on}
-use Rattle.libos_state.proofs.Loading.{run_size}
+use Rattle.libos_state.proofs.Programs.{len_of, none_from, program_fits}
+use Rattle.libos_state.proofs.Views.{AnswersAs, answer, on_objects, with_objects}
 
-pub keeps_allocate_stack : (os : LibOs) (c : Cont) (w w' : World) (r : Reply)
+pub keeps_allocate_stack : (os : LibOs) (c : Cont) (w w' : View) (r : Reply)
     → FitsStage os w.objects c AllocateStack → IsSound w.objects
-    → Abi w (asked os c AllocateStack) r w' → HoldsQuietly os c AllocateStack w r w'
+    → AnswersAs w (asked os c AllocateStack) r w' → HoldsQuietly os c AllocateStack w r w'
 keeps_allocate_stack os c w w' r fits sound abi =
     let p = file_or_child c in
     let v = visible w in
     let s = fits.made.memory in
-    let few = (run_size c fits.kept).few in
+    let process = program_fits c fits.kept in
     let none = first_held-none s STACK_PAGE STACK_PAGES
-    (λ q low _. has_no_stack s (page_count c.bytes) 7 q fits.made.holds few low) in
-    let room : len s + STACK_PAGES ≤ 1024 = let held = fits.made.holds.held in omega arith in
+    (λ q low _. fits.made.holds q ∙ none_from (extents_in c) process.runs q low) in
+    let room : len s + STACK_PAGES ≤ 1024 =
+    let held = len_of s (extents_in c) fits.made.holds process.rising in let few = process.few in omega arith in
     let new = with_run s STACK_PAGE STACK_PAGES 3 in
     let o = with_pages w.objects p new in
     let row : answer w (asked os c AllocateStack) r ≡ (Done, with_objects w o) =
@@ -52,25 +51,24 @@ keeps_allocate_stack os c w w' r fits sound abi =
           (λ other. absurd (cc)) fits.lists.handles refl fits.kept (record {
             memory = new;
             child = get-insert-same w.objects.live p (Process new None);
-            holds = pages_stacked s (page_count c.bytes) few fits.made.holds;
+            holds = pages_made s (extents_in c) STACK_PAGE STACK_PAGES 3 fits.made.holds;
           });
       means = ap (λ m. settles (begins_with v c (with_block m (arguments c)))) (child_is w.objects p new)
           ∙ sym (ap (λ m. settles (begins_with v c (stacked m (arguments c)))) (child_was v c s fits.made.child));
     })
 
-pub keeps_write_block : (os : LibOs) (c : Cont) (w w' : World) (r : Reply)
+pub keeps_write_block : (os : LibOs) (c : Cont) (w w' : View) (r : Reply)
     → FitsStage os w.objects c WriteBlock → IsSound w.objects
-    → Abi w (asked os c WriteBlock) r w' → HoldsQuietly os c WriteBlock w r w'
+    → AnswersAs w (asked os c WriteBlock) r w' → HoldsQuietly os c WriteBlock w r w'
 keeps_write_block os c w w' r fits sound abi =
     let p = file_or_child c in
     let v = visible w in
     let s = fits.made.memory in
     let args = arguments c in
     let names = names_of os w.objects c WriteBlock refl fits in
-    let few = (run_size c fits.kept).few in
     let block = block_stands args names.few names.args in
     let free = first_fault-none s STACK_PAGE STACK_PAGES 3 2 (stack_pointer args) (length (argument_block args))
-    (λ q low high. has_stack s (page_count c.bytes) 7 q fits.made.holds few low high) refl block.above block.below in
+    (has_first s (extents_in c) STACK_PAGE STACK_PAGES 3 fits.made.holds) refl block.above block.below in
     let new = filled_from s (stack_pointer args) (argument_block args) in
     let o = with_pages w.objects p new in
     let row : answer w (asked os c WriteBlock) r ≡ (Done, with_objects w o) =

@@ -16,7 +16,8 @@ use Rattle.turn_sched.proofs.Renamed.{length-map, without_place-renamed}
 use Rattle.abi_calls.specs.declared.object.Object.TheVariants.{Process, Thread, Event, Stream, ReadEnd, WriteEnd}
 use Rattle.abi_calls.specs.Objects.{Object, Objects, object_at}
 use Rattle.abi_calls.specs.Sound.{IsSound, is_sound_wait, can_be_awaited}
-use Rattle.abi_calls.specs.Turn.{is_due, is_signalled, is_signalled_object, is_past, time_of, with_due_ready}
+use Rattle.turn_sched.specs.Clock.{is_past}
+use Rattle.abi_calls.specs.Turn.{is_due, is_signalled, is_signalled_object, time_of, with_due_ready}
 use Rattle.abi_calls.proofs.Facts.{home_of, thread-standing}
 use Rattle.mono_model.specs.Machine.{Waiter, is_woken}
 use Rattle.mono_model.specs.Turns as machine

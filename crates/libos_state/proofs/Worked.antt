@@ -12,19 +12,24 @@ use Rattle.guest_space.specs.Space.{Space}
 use Rattle.turn_sched.specs.Lists.{contains}
 use Rattle.bas_names.specs.declared.StreamName.TheVariants as stream
 use Rattle.abi_calls.specs.declared.object.Object.TheVariants.{Process, Thread, Event, Stream}
-use Rattle.abi_calls.specs.declared.settings.Positions.{Positions}
-use Rattle.abi_calls.specs.declared.settings.Settings.{Settings}
+use Rattle.turn_sched.specs.declared.settings.Positions.{Positions}
+use Rattle.turn_sched.specs.declared.settings.Settings.{Settings}
 use Rattle.abi_calls.specs.Objects.{Object, Objects, object_at, is_thread_of}
+use Rattle.libos_state.specs.declared.cont.Cont.{Cont}
+use Rattle.libos_state.specs.declared.cont.Event.TheVariants as event
+use Rattle.libos_state.specs.declared.cont.Stage.TheVariants.{CloseHandles, Resume}
 use Rattle.libos_state.specs.declared.notes.Description.{Description}
 use Rattle.libos_state.specs.declared.notes.DescriptorNote.{DescriptorNote}
 use Rattle.libos_state.specs.declared.notes.Kind.TheVariants.{ConIn, ConOut, ConErr}
 use Rattle.libos_state.specs.declared.notes.ProcessNote.{ProcessNote}
 use Rattle.libos_state.specs.declared.notes.ThreadNote.{ThreadNote}
-use Rattle.libos_state.specs.declared.state.Boot.TheVariants.{Up}
+use Rattle.libos_state.specs.declared.state.Boot.TheVariants.{Up, NoProgram}
 use Rattle.libos_state.specs.declared.state.LibOs.{LibOs}
 use Rattle.libos_state.specs.Named.{Named, is_of, recorded, times_named}
 use Rattle.libos_state.specs.Fits.{FitsRecords, FitsObjects, FitsUp, are_distinct, is_to_name, is_code, handle_in}
-use Rattle.libos_state.specs.Records.{process_named}
+use Rattle.libos_state.specs.Records.{process_named, no_context}
+use Rattle.libos_state.specs.Alone.{fits_alone, fits_service}
+use Rattle.libos_state.proofs.Alone.{Decides-fits_records}
 use Rattle.libos_state.proofs.Distinct.{find-absent, contains-map}
 use Rattle.libos_state.proofs.Naming.{times_named-cons, times_named-most}
 use Rattle.libos_state.proofs.Bases.{get-mapped}
@@ -123,18 +128,12 @@ module _ (settings : Settings) (positions : Positions) (memory : Space) (context
   is_at : (q : ℕ) → object_at objects q ≡ entry table q
   is_at q = get-mapped (λ (e : ℕ × Object). e.0) (λ e. e.1) table q
 
+  -- By themselves the records fit, as the test shows.
+  worked_alone : fits_alone worked ≡ true
+  worked_alone = refl
+
   worked_records : FitsRecords worked
-  worked_records = record {
-    pids = refl;
-    tids = refl;
-    ids = refl;
-    given_pids = refl;
-    given_tids = refl;
-    processes = refl;
-    threads = refl;
-    described = refl;
-    access = refl;
-  }
+  worked_records = (Decides-fits_records worked).0 refl
 
   worked_objects : FitsObjects worked objects [] None
   worked_objects = record {
@@ -185,23 +184,43 @@ module _ (settings : Settings) (positions : Positions) (memory : Space) (context
   unfolding undescribed
   undescribed_fits_none o fits = absurd (let e : false ≡ true = fits.records.described in cc)
 
+  undescribed_unfit : fits_alone undescribed ≡ false
+  unfolding undescribed
+  undescribed_unfit = refl
+
+  -- A descriptor of the second process names a description that isn't there.
+  dangling_unfit : fits_alone (with_records (first_process ∷ record second_process { descriptors = descriptor 1 4 ∷ [] } ∷ []) three_threads) ≡ false
+  dangling_unfit = refl
+
+  -- Two threads have one id; a thread's process has exited; an id wasn't given yet.
+  same_id_unfit : fits_alone (with_records two_processes (thread 1 1 13 16 ∷ thread 1 2 14 17 ∷ [])) ≡ false
+  same_id_unfit = refl
+
+  exited_unfit : fits_alone (with_records (first_process ∷ record { pid = 2; handle = 12; code = Some 0; descriptors = [] } ∷ []) three_threads) ≡ false
+  exited_unfit = refl
+
+  ungiven_unfit : fits_alone (with_records two_processes (thread 4 1 13 16 ∷ [])) ≡ false
+  ungiven_unfit = refl
+
+  -- Without its first process a run that has begun fits nothing, and a start has no record yet.
+  orphaned_unfit : fits_alone (with_records (second_process ∷ []) []) ≡ false
+  orphaned_unfit = refl
+
+  recorded_start_unfit : fits_alone (record worked { boot = NoProgram }) ≡ false
+  recorded_start_unfit = refl
+
+  -- A handle that stands twice is a matter of the objects.
+  twice_alone : fits_alone twice ≡ true
+  unfolding twice
+  twice_alone = refl
+
   -- With descriptor 1 closed in its place the description stays open, as the second process has it.
   shared : LibOs
   shared = with_records (record first_process { descriptors = descriptor 0 1 ∷ descriptor 2 3 ∷ [] } ∷ second_process ∷ []) three_threads
 
   shared_records : FitsRecords shared
   unfolding shared
-  shared_records = record {
-    pids = worked_records.pids;
-    tids = worked_records.tids;
-    ids = worked_records.ids;
-    given_pids = worked_records.given_pids;
-    given_tids = worked_records.given_tids;
-    processes = refl;
-    threads = worked_records.threads;
-    described = refl;
-    access = worked_records.access;
-  }
+  shared_records = (Decides-fits_records shared).0 refl
 
   shared_fits : FitsUp shared objects
   unfolding shared
@@ -209,3 +228,43 @@ module _ (settings : Settings) (positions : Positions) (memory : Space) (context
       let named = worked_objects in
       let same : FitsObjects shared objects [] None = record { once = named.once; kinds = named.kinds; homes = named.homes; codes = named.codes } in
       record { records = shared_records; first = refl; objects = same; current = refl }
+
+  -- ---- a service in progress, by itself
+
+  -- The first process has ended by an illegal instruction of its first thread, and its handles are closed: of its threads no record is left.
+  abbrev ended : LibOs
+  ended = with_records (record { pid = 1; handle = 11; code = Some 132; descriptors = [] } ∷ second_process ∷ []) (thread 2 2 14 17 ∷ [])
+
+  abbrev closing : Context → List ℕ → List ℕ → List ℕ → Cont
+  closing next bytes handles numbers = record {
+    event = event.Up (record { process = 11; thread = 13; cause = 2; value = 0; context = no_context });
+    stage = CloseHandles;
+    next = next;
+    names = [];
+    bytes = bytes;
+    handles = handles;
+    numbers = numbers;
+  }
+
+  -- It fits with handles to close and the exit code, and without a handle, with another code or none, with bytes or other registers it doesn't.
+  closing_fits : fits_service ended (closing no_context [] (19 ∷ 16 ∷ []) (132 ∷ [])) CloseHandles ≡ true
+  closing_fits = refl
+
+  nothing_to_close : fits_service ended (closing no_context [] [] (132 ∷ [])) CloseHandles ≡ false
+  nothing_to_close = refl
+
+  another_code : fits_service ended (closing no_context [] (19 ∷ []) (133 ∷ [])) CloseHandles ≡ false
+  another_code = refl
+
+  no_code : fits_service ended (closing no_context [] (19 ∷ []) []) CloseHandles ≡ false
+  no_code = refl
+
+  stray_bytes : fits_service ended (closing no_context (1 ∷ []) (19 ∷ []) (132 ∷ [])) CloseHandles ≡ false
+  stray_bytes = refl
+
+  other_registers : fits_service ended (closing (record no_context { pc = 4 }) [] (19 ∷ []) (132 ∷ [])) CloseHandles ≡ false
+  other_registers = refl
+
+  -- No fault comes to the stage that resumes a thread.
+  other_stage : fits_service ended (closing no_context [] (19 ∷ []) (132 ∷ [])) Resume ≡ false
+  other_stage = refl

@@ -15,10 +15,8 @@ use Rattle.abi_calls.specs.declared.reply.Reply.{Reply}
 use Rattle.abi_calls.specs.declared.reply.Reply.TheVariants.{Bytes, BadAddress, NoAccess, TooBig}
 use Rattle.abi_calls.specs.declared.threads.Upcall.{Upcall}
 use Rattle.abi_calls.specs.Objects.{Objects, object_at, running}
-use Rattle.abi_calls.specs.World.{World, Answer, on_objects, on_contents}
 use Rattle.abi_calls.specs.Memory.{memory_read_row, unless_fault}
 use Rattle.abi_calls.specs.Streams.{stream_write_row, write_row}
-use Rattle.abi_calls.specs.Abi.{Abi, is_file}
 use Rattle.abi_calls.specs.Sound.{IsSound}
 use Rattle.mono_model.specs.Machine as mono
 use Rattle.mono_model.specs.Machine.{Mono, register}
@@ -33,7 +31,7 @@ use Rattle.libos_state.specs.declared.notes.Kind.{Kind}
 use Rattle.libos_state.specs.declared.notes.Kind.TheVariants.{ConIn, ConOut, ConErr}
 use Rattle.libos_state.specs.declared.notes.ProcessNote.{ProcessNote}
 use Rattle.libos_state.specs.declared.state.LibOs.{LibOs}
-use Rattle.libos_state.specs.Records.{Visible, visible, base, stream_of_kind, described, described_in, description_named, descriptor_named, description_behind, description_seen, process_with, process_if, memory_of_object}
+use Rattle.libos_state.specs.Records.{View, Visible, visible, base, stream_of_kind, described, described_in, description_named, descriptor_named, description_behind, description_seen, process_with, process_if, memory_of_object}
 use Rattle.libos_state.specs.Pending.{asked, upcall_in, argument, number, handle_of, wanted_stream}
 use Rattle.libos_state.specs.Answered.{bare, goes_on, service_with_result}
 use Rattle.libos_state.specs.Meaning.{caller_in, trap_in, stream_in, stream_described, leads_to, meaning, meant_at}
@@ -45,6 +43,8 @@ use Rattle.libos_state.proofs.Going.{FitsRecords-with_service, FitsObjects-with_
 use Rattle.libos_state.proofs.Naming.{list_all-find, ConsoleOf, console_of, kinds-lists, Trapped, trapped, caller_of-trapped}
 use Rattle.libos_state.proofs.Bases.{process_at-found, description_of-base}
 use Rattle.libos_state.proofs.Serving.{trap_of, on_trap, named_as-no_kinds, FitsTrap-with_service, result_fits}
+use Rattle.abi_calls.specs.World as worlds
+use Rattle.libos_state.proofs.Views.{world, on_world, Answer, AnswersAs, on_contents, on_objects}
 
 -- ---- a write, in the machine
 
@@ -274,7 +274,7 @@ module _ (os : LibOs) (c : Cont) (v : Visible) (fits : FitsStage os v.objects c 
   written_means : fault_read ≡ None → meaning (goes_on os write_next) v ≡ meant_at os v c ReadBuffer
   written_means is = ap (λ s. leads_to (write_bytes (base os v) (caller_in os c) s bytes_read)) (stream_is os c v fits.records fits.objects reading.home reading.writes) ∙ read_means None is
 
-pub keeps_read_buffer : (os : LibOs) (c : Cont) (w w' : World) (r : Reply) → FitsStage os w.objects c ReadBuffer → IsSound w.objects → Abi w (asked os c ReadBuffer) r w' → Holds os c ReadBuffer w r w'
+pub keeps_read_buffer : (os : LibOs) (c : Cont) (w w' : View) (r : Reply) → FitsStage os w.objects c ReadBuffer → IsSound w.objects → AnswersAs w (asked os c ReadBuffer) r w' → Holds os c ReadBuffer w r w'
 keeps_read_buffer os c w w' r fits sound abi =
     let v : Visible = visible w in
     let row : Option AccessFault → Answer = λ fault. on_objects w (unless_fault w.objects fault (Bytes (bytes_read os c v fits), w.objects)) in
@@ -287,12 +287,7 @@ keeps_read_buffer os c w w' r fits sound abi =
 
 -- ---- the bytes go to the stream
 
-no_file : (kind : Kind) → is_file (Some (Stream (stream_of_kind kind))) ≡ false
-no_file ConIn = refl
-no_file ConOut = refl
-no_file ConErr = refl
-
-module _ (os : LibOs) (c : Cont) (w : World) (fits : FitsStage os w.objects c WriteStream) where
+module _ (os : LibOs) (c : Cont) (w : View) (fits : FitsStage os w.objects c WriteStream) where
   abbrev writing : WriteTrap os w.objects (upcall_in c.event) WriteStream
   writing =
       let trap = trap_of os w.objects c.event WriteStream refl fits.event in
@@ -307,13 +302,10 @@ module _ (os : LibOs) (c : Cont) (w : World) (fits : FitsStage os w.objects c Wr
   abbrev written_to : Kind → Answer
   written_to k = on_contents w (write_row w.contents (number c 0) c.bytes (stream_of_kind k))
 
-  row_written : (r : Reply) → stream_write_row w (number c 0) c.bytes r (object_at w.objects (wanted_stream os c)) ≡ written_to kind
-  row_written r = ap (stream_write_row w (number c 0) c.bytes r) (stream_there os c (visible w) fits.records fits.objects writing.home writing.writes)
-      ∙ cond-false (nat_lt 65536 (length c.bytes)) (TooBig, w) (written_to kind) (le-ltb 65536 (length c.bytes) few_bytes)
-
-  -- The stream is no file.
-  pub to_no_file : is_file (object_at w.objects (wanted_stream os c)) ≡ false
-  to_no_file = ap is_file (stream_there os c (visible w) fits.records fits.objects writing.home writing.writes) ∙ no_file kind
+  row_written : (r : Reply) → on_world w (stream_write_row (world w) (number c 0) c.bytes r (object_at w.objects (wanted_stream os c))) ≡ written_to kind
+  row_written r = ap (λ x. on_world w (stream_write_row (world w) (number c 0) c.bytes r x)) (stream_there os c (visible w) fits.records fits.objects writing.home writing.writes)
+      ∙ ap (on_world w) (cond-false (nat_lt 65536 (length c.bytes)) (TooBig, world w) (worlds.on_contents (world w) (write_row w.contents (number c 0) c.bytes (stream_of_kind kind)))
+      (le-ltb 65536 (length c.bytes) few_bytes))
 
   abbrev done : Cont
   done = service_with_result c (length c.bytes)
@@ -360,6 +352,6 @@ module _ (os : LibOs) (c : Cont) (w : World) (fits : FitsStage os w.objects c Wr
     };
   }
 
-pub keeps_write_stream : (os : LibOs) (c : Cont) (w w' : World) (r : Reply) → FitsStage os w.objects c WriteStream → IsSound w.objects → Abi w (asked os c WriteStream) r w' → Holds os c WriteStream w r w'
+pub keeps_write_stream : (os : LibOs) (c : Cont) (w w' : View) (r : Reply) → FitsStage os w.objects c WriteStream → IsSound w.objects → AnswersAs w (asked os c WriteStream) r w' → Holds os c WriteStream w r w'
 keeps_write_stream os c w w' r fits sound abi =
     holds_by os c WriteStream w w' r (written_to os c w fits (kind os c w fits)) abi (row_written os c w fits r) (write_holds os c w fits (kind os c w fits) refl)

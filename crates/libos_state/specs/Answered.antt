@@ -10,9 +10,9 @@ use Rattle.abi_calls.specs.declared.reply.Reply.{Reply}
 use Rattle.abi_calls.specs.declared.reply.Reply.TheVariants.{Done, Handle, Bytes, Count, Length, BadAddress, NoAccess}
 use Rattle.mono_model.specs.Machine.{returned}
 use Rattle.mono_model.specs.Calls.{error, EFAULT}
+use Rattle.elf_loader.specs.declared.ElfError.{ElfError}
 use Rattle.elf_loader.specs.declared.Program.{Program}
-use Rattle.mono_model.specs.declared.ProgramRefusal.{ProgramRefusal}
-use Rattle.mono_model.specs.Program.{program_of}
+use Rattle.elf_loader.specs.Image.{loaded}
 use Rattle.libos_state.specs.declared.cont.Cont.{Cont}
 use Rattle.libos_state.specs.declared.cont.Stage.{Stage}
 use Rattle.libos_state.specs.declared.cont.Stage.TheVariants.{SetContext, Resume, CloseHandles, ExitProcess, ReadBuffer, WriteStream, Configure, OpenConsole, OpenProgram, ProgramLength, ReadProgram, CloseProgram, CreateProcess, AllocateRun, WriteRun, ProtectRun, AllocateStack, WriteBlock, CreateThread, CreateEvent, StartThread}
@@ -27,7 +27,7 @@ use Rattle.libos_state.specs.declared.step.Change.{Change}
 use Rattle.libos_state.specs.declared.step.Change.TheVariants.{Same, Begins}
 use Rattle.libos_state.specs.declared.step.Step.{Step}
 use Rattle.libos_state.specs.declared.step.Step.TheVariants.{Asks, Ends, Stops}
-use Rattle.libos_state.specs.Pending.{upcall_in, handle, number, run_in, run_piece, file_or_child}
+use Rattle.libos_state.specs.Pending.{upcall_in, handle, number, runs_in, run_in, run_piece, file_or_child}
 
 -- The service goes on with these, or has ended.
 abbrev pub goes_on : LibOs → Cont → LibOs
@@ -101,8 +101,8 @@ start_with_piece c bytes =
     then starting c CloseProgram (c.bytes ++ bytes) c.handles []
     else starting c ReadProgram (c.bytes ++ bytes) c.handles c.numbers)
 
--- The bytes are a program, which is loaded, or they are none.
-abbrev pub load_step : Cont → Result Program ProgramRefusal → Step
+-- The bytes are a program, which is loaded, or they are refused by this cause.
+abbrev pub load_step : Cont → Result Program ElfError → Step
 load_step c (Ok program) = Asks (starting c CreateProcess c.bytes (take 3 c.handles) [])
 load_step c (Err cause) = Stops (BadProgram cause)
 
@@ -110,8 +110,14 @@ load_step c (Err cause) = Stops (BadProgram cause)
 abbrev pub start_writing : Cont → ℕ → Cont
 start_writing c written =
     if nat_lt written (length (run_in c).bytes)
-    then starting c WriteRun c.bytes c.handles (0 ∷ written ∷ [])
-    else starting c ProtectRun c.bytes c.handles (0 ∷ [])
+    then starting c WriteRun c.bytes c.handles (number c 0 ∷ written ∷ [])
+    else starting c ProtectRun c.bytes c.handles (number c 0 ∷ [])
+
+-- The runs are loaded one after another, and then the stack is made.
+abbrev pub start_loading : Cont → ℕ → Cont
+start_loading c run =
+    if nat_lt run (length (runs_in c)) then starting c AllocateRun c.bytes c.handles (run ∷ [])
+    else starting c AllocateStack c.bytes c.handles []
 
 -- The records of the run's first process, with the console as its descriptors 0, 1 and 2.
 abbrev pub console_descriptors : List DescriptorNote
@@ -153,12 +159,12 @@ next c OpenProgram (Handle h) = Asks (starting c ProgramLength [] (c.handles ++ 
 next c OpenProgram _ = Stops NoProgram
 next c ProgramLength (Length size) = Asks (start_reading c size)
 next c ReadProgram (Bytes bytes) = Asks (start_with_piece c bytes)
-next c CloseProgram Done = load_step c (program_of c.bytes)
+next c CloseProgram Done = load_step c (loaded c.bytes)
 next c CreateProcess (Handle h) =
     Asks (starting c AllocateRun c.bytes (c.handles ++ h ∷ []) (0 ∷ []))
-next c AllocateRun Done = Asks (starting c WriteRun c.bytes c.handles (0 ∷ 0 ∷ []))
+next c AllocateRun Done = Asks (starting c WriteRun c.bytes c.handles (number c 0 ∷ 0 ∷ []))
 next c WriteRun Done = Asks (start_writing c (number c 1 + length (run_piece c)))
-next c ProtectRun Done = Asks (starting c AllocateStack c.bytes c.handles [])
+next c ProtectRun Done = Asks (start_loading c (number c 0 + 1))
 next c AllocateStack Done = Asks (starting c WriteBlock c.bytes c.handles [])
 next c WriteBlock Done = Asks (starting c CreateThread c.bytes c.handles [])
 next c CreateThread (Handle h) =

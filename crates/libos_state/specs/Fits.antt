@@ -1,13 +1,12 @@
 -- When the library OS fits the objects of a world: its records by themselves, the service in
 -- progress by itself, and the objects, each of which is named once.
-use Rattle.std.specs.Prelude.{◌≡◌, ℕ, ◌+◌, ◌≤◌, ◌<◌, ◌==◌, Bool, true, false, not, ◌&&◌, ◌||◌, if◌then◌else◌, List, [], ◌∷◌, ◌++◌, map, length, is_some, bit_and, nat_le, nat_lt}
+use Rattle.std.specs.Prelude.{◌≡◌, ℕ, ◌≤◌, ◌<◌, ◌==◌, Bool, true, false, not, ◌&&◌, ◌||◌, if◌then◌else◌, List, [], ◌∷◌, ◌++◌, map, length, take, is_some, bit_and, nat_le, nat_lt}
 use Rattle.std.specs.List.{list_all, list_any}
-use Rattle.std.specs.Option.{option_map}
-use Rattle.std.specs.Ordering.{nat_cmp}
-use Rattle.std.specs.FinMap.{get, empty, len}
 use Rattle.std.specs.declared.option.Option.{Option}
 use Rattle.std.specs.declared.option.Option.TheVariants.{None, Some}
-use Rattle.guest_space.specs.Space.{Space, Frame, in_run}
+use Rattle.guest_space.specs.declared.Extent.{Extent}
+use Rattle.guest_space.specs.Space.{Space, page_rights}
+use Rattle.guest_space.specs.Regions.{extent_rights}
 use Rattle.turn_sched.specs.Lists.{contains, is_at}
 use Rattle.abi_calls.specs.declared.object.Object.TheVariants as object
 use Rattle.abi_calls.specs.declared.object.Object.TheVariants.{Process, Thread}
@@ -16,7 +15,8 @@ use Rattle.abi_calls.specs.Objects.{Object, Objects, object_at, running, is_thre
 use Rattle.abi_calls.specs.Processes.{is_acceptable}
 use Rattle.mono_model.specs.Machine.{register}
 use Rattle.mono_model.specs.Calls.{WRITE, EXIT, moved}
-use Rattle.mono_model.specs.Program.{is_plain, page_count}
+use Rattle.elf_loader.specs.Image.{extent_of}
+use Rattle.elf_loader.specs.Refusal.{refusal}
 use Rattle.mono_model.specs.Starting.{STACK_PAGE, STACK_PAGES}
 use Rattle.libos_state.specs.declared.cont.Cont.{Cont}
 use Rattle.libos_state.specs.declared.cont.Event.{Event}
@@ -32,7 +32,7 @@ use Rattle.libos_state.specs.declared.state.Boot.{Boot}
 use Rattle.libos_state.specs.declared.state.Boot.TheVariants as boot
 use Rattle.libos_state.specs.declared.state.LibOs.{LibOs}
 use Rattle.libos_state.specs.Records.{process_named, process_with, thread_with, description_named, description_behind}
-use Rattle.libos_state.specs.Pending.{upcall_in, handle, program_name, arguments, file_or_child, run_in}
+use Rattle.libos_state.specs.Pending.{upcall_in, handle, number, program_name, arguments, file_or_child, runs_in, run_in}
 use Rattle.libos_state.specs.Named.{Named, is_of, recorded, named_as, consoles, kinds_at, kept_names, times_named}
 
 -- ---- the records by themselves
@@ -263,12 +263,19 @@ pub record KeepsSize (c : Cont) : Type 0 where
   pub kept : c.numbers ≡ size ∷ []
   pub read : length c.bytes ≤ size
 
--- The program's one run is written up to here.
+-- The bytes are a program that the loader takes.
+abbrev pub KeepsProgram : Cont → Type 0
+KeepsProgram c = refusal c.bytes ≡ None
+
+-- The number is that of one of the program's runs.
+pub record KeepsRun (c : Cont) : Type 0 where
+  pub program : KeepsProgram c
+  pub among : number c 0 < length (runs_in c)
+
+-- So many of the run's bytes are written, and not all.
 pub record KeepsPlace (c : Cont) : Type 0 where
-  pub plain : is_plain c.bytes ≡ true
-  pub written : ℕ
-  pub kept : c.numbers ≡ 0 ∷ written ∷ []
-  pub more : written < length (run_in c).bytes
+  pub run : KeepsRun c
+  pub more : number c 1 < length (run_in c).bytes
 
 -- What a service keeps fits its event.
 abbrev pub FitsKept : LibOs → Cont → Stage → Type 0
@@ -278,26 +285,37 @@ FitsKept os c WriteStream =
     (c.numbers ≡ 0 ∷ []) × (length c.bytes ≡ moved (register (upcall_in c.event).context 12))
 FitsKept os c Configure = is_acceptable os.settings ≡ true
 FitsKept os c ReadProgram = KeepsSize c
-FitsKept os c CreateProcess = is_plain c.bytes ≡ true
-FitsKept os c AllocateRun = (is_plain c.bytes ≡ true) × (c.numbers ≡ 0 ∷ [])
+FitsKept os c CreateProcess = KeepsProgram c
+FitsKept os c AllocateRun = KeepsRun c
 FitsKept os c WriteRun = KeepsPlace c
-FitsKept os c ProtectRun = (is_plain c.bytes ≡ true) × (c.numbers ≡ 0 ∷ [])
-FitsKept os c AllocateStack = is_plain c.bytes ≡ true
-FitsKept os c WriteBlock = is_plain c.bytes ≡ true
-FitsKept os c CreateThread = is_plain c.bytes ≡ true
-FitsKept os c CreateEvent = is_plain c.bytes ≡ true
-FitsKept os c StartThread = is_plain c.bytes ≡ true
+FitsKept os c ProtectRun = KeepsRun c
+FitsKept os c AllocateStack = KeepsProgram c
+FitsKept os c WriteBlock = KeepsProgram c
+FitsKept os c CreateThread = KeepsProgram c
+FitsKept os c CreateEvent = KeepsProgram c
+FitsKept os c StartThread = KeepsProgram c
 FitsKept os c _ = Unit {0}
 
 -- ---- the objects that a start has made
 
--- The process that is made has the pages of the program with these rights, and so many of the
--- stack.
-pub record HasPages (s : Space) (count rights stack : ℕ) : Type 0 where
-  pub pages : (q : ℕ) → option_map (λ (frame : Frame). frame.rights) (get {R = nat_cmp} s q)
-      ≡ (if in_run 16 count q then Some rights
-      else (if in_run STACK_PAGE stack q then Some 3 else None))
-  pub held : len s ≡ count + stack
+-- Where the runs of the program lie, and those before the one that is loaded.
+abbrev pub extents_in : Cont → List Extent
+extents_in c = map extent_of (runs_in c)
+
+abbrev pub extents_before : Cont → List Extent
+extents_before c = take (number c 0) (extents_in c)
+
+-- A process has the pages of these extents with their rights, and no others.
+abbrev pub HasPages : Space → List Extent → Type 0
+HasPages s extents = (q : ℕ) → page_rights s q ≡ extent_rights extents q
+
+-- An extent of pages that can be read and written: those of a run before it gets its rights, and
+-- those of the stack.
+abbrev pub writable : Extent → Extent
+writable extent = record extent { rights = 3 }
+
+abbrev pub STACK : Extent
+STACK = record { page = STACK_PAGE; count = STACK_PAGES; rights = 3 }
 
 -- The process that is made runs, and of its memory this holds.
 pub record HasChild (o : Objects) (c : Cont) (P : Space → Type 0) : Type 0 where
@@ -316,11 +334,13 @@ HasEvent o c = object_at o (handle c 5) ≡ Some (object.Event false)
 
 abbrev pub FitsMade : Objects → Cont → Stage → Type 0
 FitsMade o c Configure = o.positions.turns ≡ 0
-FitsMade o c AllocateRun = HasChild o c (λ s. s ≡ empty)
-FitsMade o c WriteRun = HasChild o c (λ s. HasPages s (page_count c.bytes) 3 0)
-FitsMade o c ProtectRun = HasChild o c (λ s. HasPages s (page_count c.bytes) 3 0)
-FitsMade o c AllocateStack = HasChild o c (λ s. HasPages s (page_count c.bytes) 7 0)
-FitsMade o c WriteBlock = HasChild o c (λ s. HasPages s (page_count c.bytes) 7 STACK_PAGES)
+FitsMade o c AllocateRun = HasChild o c (λ s. HasPages s (extents_before c))
+FitsMade o c WriteRun =
+    HasChild o c (λ s. HasPages s (writable (extent_of (run_in c)) ∷ extents_before c))
+FitsMade o c ProtectRun =
+    HasChild o c (λ s. HasPages s (writable (extent_of (run_in c)) ∷ extents_before c))
+FitsMade o c AllocateStack = HasChild o c (λ s. HasPages s (extents_in c))
+FitsMade o c WriteBlock = HasChild o c (λ s. HasPages s (STACK ∷ extents_in c))
 FitsMade o c CreateThread = HasChild o c (λ s. Unit {0})
 FitsMade o c CreateEvent = HasChild o c (λ s. Unit {0}) × HasThread o c
 FitsMade o c StartThread = HasChild o c (λ s. Unit {0}) × HasThread o c × HasEvent o c

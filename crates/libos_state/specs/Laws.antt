@@ -1,4 +1,4 @@
--- The laws of the library OS over every world: a reply keeps what it stands for, and a trap makes
+-- The laws of the library OS over every view: a reply keeps what it stands for, and a trap makes
 -- it stand for the machine's next turn.
 use Rattle.std.specs.Prelude.{◌≡◌, ◌⊎◌, ℕ, List, ◌++◌}
 use Rattle.std.specs.declared.option.Option.TheVariants.{Some}
@@ -8,15 +8,14 @@ use Rattle.abi_calls.specs.declared.threads.Turned.TheVariants.{Exception}
 use Rattle.abi_calls.specs.declared.threads.Upcall.{Upcall}
 use Rattle.abi_calls.specs.Objects.{Objects}
 use Rattle.bas_edge.specs.Files.{Files}
-use Rattle.abi_calls.specs.World.{World}
-use Rattle.abi_calls.specs.Abi.{Abi}
+use Rattle.abi_calls.specs.Rules.{Face, AnswersThrough}
 use Rattle.abi_calls.specs.Sound.{IsSound}
 use Rattle.abi_calls.specs.Turn.{world_turn}
 use Rattle.mono_model.specs.Written.{Written, and_then}
 use Rattle.mono_model.specs.Starting.{Started, Runs}
 use Rattle.mono_model.specs.Turns.{turn_of}
 use Rattle.libos_state.specs.declared.state.LibOs.{LibOs}
-use Rattle.libos_state.specs.Records.{Visible, visible, with_visible, base}
+use Rattle.libos_state.specs.Records.{View, Visible, visible, with_visible, base}
 use Rattle.libos_state.specs.Pending.{pending}
 use Rattle.libos_state.specs.Meaning.{Meaning, meaning, leads_to}
 use Rattle.libos_state.specs.declared.state.Boot.TheVariants.{Going, Up}
@@ -32,9 +31,9 @@ pub record IsRest (rest whole : List ℕ) : Type 0 where
   pub taken : List ℕ
   pub is : whole ≡ taken ++ rest
 
--- What was stood for in one world is stood for in a later one, behind what was written between the
+-- What was stood for in one view is stood for in a later one, behind what was written between the
 -- two; the files are those before or those that it leads to.
-pub record Keeps (w : World) (old : Meaning) (w' : World) (new : Meaning) : Type 0 where
+pub record Keeps (w : View) (old : Meaning) (w' : View) (new : Meaning) : Type 0 where
   pub written : Written
   pub output : w'.contents.output ≡ w.contents.output ++ written.output
   pub errors : w'.contents.errors ≡ w.contents.errors ++ written.errors
@@ -43,18 +42,25 @@ pub record Keeps (w : World) (old : Meaning) (w' : World) (new : Meaning) : Type
       ⊎ (w'.contents.files ≡ files_in old.0 w.contents.files)
   pub same : old ≡ (new.0, and_then written new.1)
 
--- A reply leads from one library OS in a world to another in the next world: it fits there, the two
--- stand for the same, a start changes no contents, and a run that has begun goes on.
-pub record GoesOn (old : LibOs) (w : World) (new : LibOs) (w' : World) : Type 0 where
+-- A reply leads from one library OS over a view to another over the next view: it fits there, the
+-- two stand for the same, a start changes no contents, and a run that has begun goes on.
+pub record GoesOn (old : LibOs) (w : View) (new : LibOs) (w' : View) : Type 0 where
   pub fits : Fits new w'.objects
   pub keeps : Keeps w (meaning old (visible w)) w' (meaning new (visible w'))
   pub quiet : old.boot ≡ Going → w'.contents ≡ w.contents
   pub up : old.boot ≡ Up → new.boot ≡ Up
 
--- So it does in every sound world that the library OS fits, whatever the host answers.
+-- The lists of rules and the objects of a view, which are always told.
+abbrev pub face_of : View → Face
+face_of w = record { rules = w.rules; objects = w.objects }
+
+-- So it does over every view with sound objects that the library OS fits, whatever the host answers
+-- below the lists of rules, and whatever these lists are.
 pub record KeepsMeaning (old : LibOs) (reply : Reply) (new : LibOs) : Type 0 where
-  pub kept : (w w' : World) (call : Call) → pending old ≡ Some call
-      → Fits old w.objects → IsSound w.objects → Abi w call reply w' → GoesOn old w new w'
+  pub kept : (w w' : View) (call : Call) → pending old ≡ Some call
+      → Fits old w.objects → IsSound w.objects
+      → AnswersThrough (face_of w) w.contents call reply (face_of w') w'.contents
+      → GoesOn old w new w'
 
 -- In every sound world that the library OS fits with nothing in progress, a turn that ends with
 -- this trap makes the new library OS fit and stand for the machine's next turn.

@@ -6,6 +6,7 @@ pub mod Entered
 pub mod Meaning
 pub mod Named
 pub mod Fits
+pub mod Alone
 pub mod Turned
 pub mod Laws
 pub mod Kept

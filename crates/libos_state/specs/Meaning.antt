@@ -14,8 +14,7 @@ use Rattle.abi_calls.specs.declared.threads.Upcall.{Upcall}
 use Rattle.mono_model.specs.Machine.{Mono, resumed, made_ready}
 use Rattle.mono_model.specs.Written.{Written, nothing}
 use Rattle.mono_model.specs.Calls.{Caller, Trap, Served, served, write_bytes}
-use Rattle.mono_model.specs.Program.{plain_program}
-use Rattle.mono_model.specs.Starting.{Job, Started, Runs, NoProgram, BadProgram, blank, started, started_with, begun, start_context, loaded_run, filled_from, with_rights_of, stacked, with_block}
+use Rattle.mono_model.specs.Starting.{Job, Started, Runs, NoProgram, BadProgram, blank_under, started, started_with, begun, start_context, loaded, filled_from, with_rights_of, stacked, with_block}
 use Rattle.libos_state.specs.declared.cont.Cont.{Cont}
 use Rattle.libos_state.specs.declared.cont.Stage.{Stage}
 use Rattle.libos_state.specs.declared.cont.Stage.TheVariants.{SetContext, Resume, CloseHandles, ExitProcess, ReadBuffer, WriteStream, Configure, OpenConsole, OpenProgram, ProgramLength, ReadProgram, CloseProgram, CreateProcess, AllocateRun, WriteRun, ProtectRun, AllocateStack, WriteBlock, CreateThread, CreateEvent, StartThread}
@@ -24,7 +23,7 @@ use Rattle.libos_state.specs.declared.state.Boot.{Boot}
 use Rattle.libos_state.specs.declared.state.Boot.TheVariants as boot
 use Rattle.libos_state.specs.declared.state.LibOs.{LibOs}
 use Rattle.libos_state.specs.Records.{Visible, base, thread_with, stream_of_kind, description_behind, memory_of_object, context_of, tid_of, pid_with}
-use Rattle.libos_state.specs.Pending.{upcall_in, handle, number, program_name, arguments, argument, file_or_child, no_positions, run_in}
+use Rattle.libos_state.specs.Pending.{upcall_in, handle, number, program_name, arguments, argument, file_or_child, no_positions, program_in, runs_in, run_in}
 
 -- The thread and the process of a trap, by their ids.
 abbrev pub caller_of : LibOs → Upcall → Caller
@@ -48,7 +47,7 @@ stream_in os c = stream_described (description_behind os (upcall_in c.event).pro
 
 -- The machine before the start, with what the host has of it.
 abbrev pub unstarted : Visible → Mono
-unstarted w = blank w.objects.settings w.objects.positions w.contents
+unstarted w = blank_under w.rules w.objects.settings w.objects.positions w.contents
 
 abbrev pub job_in : Cont → Job
 job_in c = record { name = program_name c; args = arguments c }
@@ -78,7 +77,11 @@ abbrev pub begins : Visible → Space → Context → Started
 begins w memory context = Runs (begun (unstarted w) memory context)
 
 abbrev pub begins_with : Visible → Cont → Space → Started
-begins_with w c memory = begins w memory (start_context (plain_program c.bytes) (arguments c))
+begins_with w c memory = begins w memory (start_context (program_in c) (arguments c))
+
+-- The run whose bytes are written gets its rights, and those behind it are loaded.
+abbrev pub with_runs_behind : Cont → Space → Space
+with_runs_behind c s = loaded (with_rights_of s (run_in c)) (drop (number c 0 + 1) (runs_in c))
 
 -- What a service leads to, and what it writes before.
 abbrev pub Meaning : Type 0
@@ -105,7 +108,8 @@ meant_at os w c ExitProcess = settles (Runs (base os w))
 meant_at os w c ReadBuffer = leads_to (served (base os w) (caller_in os c) (trap_in c))
 meant_at os w c WriteStream =
     leads_to (write_bytes (base os w) (caller_in os c) (stream_in os c) c.bytes)
-meant_at os w c Configure = settles (started (blank os.settings no_positions w.contents) (job_in c))
+meant_at os w c Configure =
+    settles (started (blank_under w.rules os.settings no_positions w.contents) (job_in c))
 meant_at os w c OpenConsole = settles (started (unstarted w) (job_in c))
 meant_at os w c OpenProgram = settles (started (unstarted w) (job_in c))
 meant_at os w c ProgramLength =
@@ -116,15 +120,14 @@ meant_at os w c ReadProgram =
 meant_at os w c CloseProgram = settles (started_with (unstarted w) (arguments c) c.bytes)
 meant_at os w c CreateProcess = settles (started_with (unstarted w) (arguments c) c.bytes)
 meant_at os w c AllocateRun =
-    let loaded = loaded_run (child_memory w c) (run_in c) in
-    settles (begins_with w c (stacked loaded (arguments c)))
+    let whole = loaded (child_memory w c) (drop (number c 0) (runs_in c)) in
+    settles (begins_with w c (stacked whole (arguments c)))
 meant_at os w c WriteRun =
     let at = (run_in c).page * 4096 + number c 1 in
     let filled = filled_from (child_memory w c) at (drop (number c 1) (run_in c).bytes) in
-    settles (begins_with w c (stacked (with_rights_of filled (run_in c)) (arguments c)))
+    settles (begins_with w c (stacked (with_runs_behind c filled) (arguments c)))
 meant_at os w c ProtectRun =
-    let loaded = with_rights_of (child_memory w c) (run_in c) in
-    settles (begins_with w c (stacked loaded (arguments c)))
+    settles (begins_with w c (stacked (with_runs_behind c (child_memory w c)) (arguments c)))
 meant_at os w c AllocateStack =
     settles (begins_with w c (stacked (child_memory w c) (arguments c)))
 meant_at os w c WriteBlock =

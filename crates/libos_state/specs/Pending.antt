@@ -1,18 +1,19 @@
 -- The call that a service makes next: one for each stage.
-use Rattle.std.specs.Prelude.{ℕ, ◌+◌, ◌-◌, ◌*◌, ◌%◌, ◌==◌, false, if◌then◌else◌, List, [], length, take, drop, min, slice_index, slice_get, unwrap_or}
+use Rattle.std.specs.Prelude.{ℕ, ◌+◌, ◌-◌, ◌*◌, ◌%◌, ◌==◌, false, if◌then◌else◌, List, [], length, take, drop, min, slice_index, slice_index_or, slice_get, unwrap_or}
 use Rattle.std.specs.declared.option.Option.{Option}
 use Rattle.std.specs.declared.option.Option.TheVariants.{None, Some}
 use Rattle.abi_calls.specs.declared.call.Call.{Call}
 use Rattle.abi_calls.specs.declared.call.Call.TheVariants.{MemoryAllocate, MemoryProtect, MemoryRead, MemoryWrite, ThreadCreate, ThreadResume, ThreadContext, EventCreate, StreamOpen, StreamRead, StreamWrite, StreamLength, Close, ProcessCreate, ProcessExit, Configure}
 use Rattle.bas_names.specs.declared.StreamName.{StreamName}
 use Rattle.bas_names.specs.declared.StreamName.TheVariants.{File, ConIn, ConOut, ConErr}
-use Rattle.abi_calls.specs.declared.settings.Positions.{Positions}
+use Rattle.turn_sched.specs.declared.settings.Positions.{Positions}
 use Rattle.abi_calls.specs.declared.threads.Upcall.{Upcall}
 use Rattle.mono_model.specs.Machine.{register}
 use Rattle.mono_model.specs.Calls.{moved}
+use Rattle.elf_loader.specs.declared.Program.{Program}
 use Rattle.elf_loader.specs.declared.Run.{Run}
-use Rattle.mono_model.specs.Program.{plain_run, plain_program}
-use Rattle.mono_model.specs.Starting.{pages_in, argument_block, stack_pointer, start_context, STACK_PAGE, STACK_PAGES}
+use Rattle.elf_loader.specs.Image.{page_count, program_of}
+use Rattle.mono_model.specs.Starting.{argument_block, stack_pointer, start_context, STACK_PAGE, STACK_PAGES}
 use Rattle.libos_state.specs.declared.cont.Cont.{Cont}
 use Rattle.libos_state.specs.declared.cont.Event.{Event}
 use Rattle.libos_state.specs.declared.cont.Event.TheVariants.{Boot, Up}
@@ -71,10 +72,21 @@ PIECE = 65536
 abbrev pub no_positions : Positions
 no_positions = record { turns = 0; pick = 0; random = 0 }
 
--- The pages that the program's bytes stand for.
-abbrev pub run_in : Cont → Run
-run_in c = plain_run c.bytes
+-- The program that the bytes are, its runs of pages, and the one that is loaded: the first number
+-- is the run's, counted from 0.
+abbrev pub program_in : Cont → Program
+program_in c = program_of c.bytes
 
+abbrev pub runs_in : Cont → List Run
+runs_in c = (program_in c).runs
+
+abbrev pub no_run : Run
+no_run = record { page = 0; rights = 0; bytes = [] }
+
+abbrev pub run_in : Cont → Run
+run_in c = slice_index_or (runs_in c) (number c 0) no_run
+
+-- The run's bytes that are written next; the second number says how many are written already.
 abbrev pub run_piece : Cont → List ℕ
 run_piece c = take PIECE (drop (number c 1) (run_in c).bytes)
 
@@ -93,16 +105,16 @@ asked os c ReadProgram =
     StreamRead (file_or_child c) (length c.bytes) (min PIECE (number c 0 - length c.bytes))
 asked os c CloseProgram = Close (file_or_child c)
 asked os c CreateProcess = ProcessCreate
-asked os c AllocateRun = MemoryAllocate (file_or_child c) (run_in c).page (pages_in (run_in c)) 3
+asked os c AllocateRun = MemoryAllocate (file_or_child c) (run_in c).page (page_count (run_in c)) 3
 asked os c WriteRun =
     MemoryWrite (file_or_child c) ((run_in c).page * 4096 + number c 1) (run_piece c)
 asked os c ProtectRun =
-    MemoryProtect (file_or_child c) (run_in c).page (pages_in (run_in c)) (run_in c).rights
+    MemoryProtect (file_or_child c) (run_in c).page (page_count (run_in c)) (run_in c).rights
 asked os c AllocateStack = MemoryAllocate (file_or_child c) STACK_PAGE STACK_PAGES 3
 asked os c WriteBlock =
     MemoryWrite (file_or_child c) (stack_pointer (arguments c)) (argument_block (arguments c))
 asked os c CreateThread =
-    ThreadCreate (file_or_child c) (start_context (plain_program c.bytes) (arguments c))
+    ThreadCreate (file_or_child c) (start_context (program_in c) (arguments c))
 asked os c CreateEvent = EventCreate
 asked os c StartThread = ThreadResume (handle c 4)
 

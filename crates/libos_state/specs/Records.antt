@@ -7,12 +7,13 @@ use Rattle.std.specs.declared.option.Option.{Option}
 use Rattle.std.specs.declared.option.Option.TheVariants.{None, Some}
 use Rattle.rv_core.specs.declared.context.Context.{Context}
 use Rattle.guest_space.specs.Space.{Space}
+use Rattle.bas_names.specs.declared.Rule.{Rule}
 use Rattle.bas_names.specs.declared.StreamName as stream
 use Rattle.bas_names.specs.declared.StreamName.{StreamName}
 use Rattle.turn_sched.specs.Lists.{Lists, Waiting}
 use Rattle.abi_calls.specs.declared.object.Object.TheVariants.{Thread, Event}
 use Rattle.abi_calls.specs.Objects.{Object, Objects, Live, running}
-use Rattle.abi_calls.specs.World.{World}
+use Rattle.abi_calls.specs.World.{Contents}
 use Rattle.mono_model.specs.Readable.{Readable}
 use Rattle.mono_model.specs.Machine as mono
 use Rattle.mono_model.specs.Machine.{Mono, Waiter, Target, Opened, Exits, Wakes, Gone}
@@ -152,14 +153,27 @@ lists_of os l = record {
   current = None;
 }
 
--- What programs can see of a world: its objects, the files and the input, but nothing that was
--- written to the console.
+-- What the library OS has below it: lists of rules on names, top first, and a world's objects and
+-- contents, where open files have the names that came through the lists. Above a host alone there
+-- is no list.
+pub record View : Type 0 where
+  pub rules : List (List Rule)
+  pub objects : Objects
+  pub contents : Contents
+
+abbrev pub over_host : Objects → Contents → View
+over_host o x = record { rules = []; objects = o; contents = x }
+
+-- What programs can see of it: the lists, the objects, the files and the input, but nothing that
+-- was written to the console.
 pub record Visible : Type 0 where
+  pub rules : List (List Rule)
   pub objects : Objects
   pub contents : Readable
 
-abbrev pub visible : World → Visible
+abbrev pub visible : View → Visible
 visible w = record {
+  rules = w.rules;
   objects = w.objects;
   contents = record { files = w.contents.files; input = w.contents.input };
 }
@@ -167,13 +181,14 @@ visible w = record {
 abbrev pub with_visible : Visible → Objects → Visible
 with_visible v o = record v { objects = o }
 
--- The machine that the records name in a world.
+-- The machine that the records name in a view.
 abbrev pub base : LibOs → Visible → Mono
 base os w = record {
   processes = processes_of os.processes w.objects.live;
   threads = threads_of os.threads w.objects.live;
   descriptions = descriptions_of os.descriptions;
   lists = lists_of os w.objects.lists;
+  rules = w.rules;
   files = w.contents.files;
   input = w.contents.input;
   next_id = os.next_id;

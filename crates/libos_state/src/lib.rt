@@ -3,12 +3,13 @@
 #![tactic(auto)]
 
 mod cont;
+mod laws;
 mod notes;
 mod state;
 mod step;
 
 pub use cont::{Cont, Event, Stage};
-pub use mono_model::ProgramRefusal;
+pub use laws::{file_by_rules, fits_is_cut, tests_decide};
 pub use notes::{Description, DescriptorNote, Kind, ProcessNote, ThreadNote};
 pub use state::{Boot, LibOs};
 pub use step::{Change, Step};

@@ -2,7 +2,7 @@ use crate::cont::Cont;
 use crate::notes::{Description, ProcessNote, ThreadNote};
 use abi_calls::Settings;
 use bas_items::Items;
-use mono_model::ProgramRefusal;
+use elf_loader::ElfError;
 
 /// How far the start of the run is.
 #[derive(Clone, Copy, Debug, PartialEq, Eq)]
@@ -13,8 +13,8 @@ pub enum Boot {
     Up,
     /// The program's file can't be opened.
     NoProgram,
-    /// The file is no program.
-    BadProgram(ProgramRefusal),
+    /// The file is no program, by the loader's refusal.
+    BadProgram(ElfError),
 }
 
 /// The library OS: the system calls, over the host's interface.

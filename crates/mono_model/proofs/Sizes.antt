@@ -1,46 +1,12 @@
--- How large a program's pages and the argument block are, and where the block stands.
+-- How large the argument block is, and where it stands.
 use Rattle.std.specs.Prelude.{◌≡◌, ℕ, ◌+◌, ◌-◌, ◌*◌, ◌/◌, ◌^◌, ◌≤◌, true, ◌&&◌, nat_le, List, [], ◌∷◌, ◌++◌, length, take, drop, replicate, sum_by}
 use Rattle.std.specs.List.{list_all, flat_map}
 use Rattle.std.specs.Int.{to_le_bytes, w64}
-use Rattle.std.specs.Str.{bytes_eq}
 use Rattle.std.proofs.Common.{refl, ◌∙◌, arith, leb-true, length-append, length-drop}
 use Rattle.std.proofs.lemmas.Bool.{and_parts}
 use Rattle.std.proofs.lemmas.List.{length-replicate, length_push}
 use Rattle.std.proofs.lemmas.List.Sums.{sum_by-cons}
-use Rattle.mono_model.specs.Program.{is_plain, headers, page_count, page_bytes, plain_run}
-use Rattle.mono_model.specs.Starting.{STACK_PAGE, STACK_PAGES, STACK_END, block_size, stack_pointer, pointers, block_at, argument_block, pages_in}
-
--- ---- a program file, and its pages
-
-pub record HasPlainSize (file : List ℕ) : Type 0 where
-  pub least : 124 ≤ length file
-  pub most : length file ≤ 120 + 2 ^ 20
-
-pub plain_size : (file : List ℕ) → is_plain file ≡ true → HasPlainSize file
-plain_size file plain =
-    let parts = and_parts (nat_le 124 (length file)) (nat_le (length file) (120 + 2 ^ 20) && bytes_eq (take 120 file) (headers (length file - 120))) plain in
-    let rest = and_parts (nat_le (length file) (120 + 2 ^ 20)) (bytes_eq (take 120 file) (headers (length file - 120))) parts.1 in
-    record { least = leb-true 124 (length file) parts.0; most = leb-true (length file) (120 + 2 ^ 20) rest.0 }
-
-three_parts : (xs ys zs : List ℕ) → length (xs ++ (ys ++ zs)) ≡ length xs + (length ys + length zs)
-three_parts xs ys zs = omega (arith, length-append xs (ys ++ zs), length-append ys zs)
-
-padded : (size count front tail pad : ℕ) → 120 ≤ size → size ≤ count → front ≡ 120 → tail ≡ size - 120 → pad ≡ count - size → front + (tail + pad) ≡ count
-padded size count front tail pad long within z t p = omega arith
-
--- A program's pages are whole pages.
-pub length-page_bytes : (file : List ℕ) → 120 ≤ length file → length (page_bytes file) ≡ page_count file * 4096
-length-page_bytes file long =
-    three_parts (replicate 120 0) (drop 120 file) (replicate (page_count file * 4096 - length file) 0)
-    ∙ padded (length file) (page_count file * 4096) _ _ _ long (omega arith) (length-replicate {A = ℕ} 120 0) (length-drop 120 file) (length-replicate {A = ℕ} (page_count file * 4096 - length file) 0)
-
-whole_pages : (n size : ℕ) → size ≡ n * 4096 → size / 4096 ≡ n
-whole_pages n size is = omega arith
-
-pub pages_in_plain : (file : List ℕ) → 120 ≤ length file → pages_in (plain_run file) ≡ page_count file
-pages_in_plain file long = whole_pages (page_count file) (length (page_bytes file)) (length-page_bytes file long)
-
--- ---- the argument block
+use Rattle.mono_model.specs.Starting.{STACK_PAGE, STACK_PAGES, STACK_END, block_size, stack_pointer, pointers, block_at, argument_block}
 
 pub length-pointers : (at : ℕ) (args : List (List ℕ)) → length (pointers at args) ≡ 8 * length args
 length-pointers at [] = refl

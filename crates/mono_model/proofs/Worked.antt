@@ -3,7 +3,6 @@ use Rattle.std.proofs.Common.{◌≡◌, ℕ, true, false, List, [], ◌∷◌, 
 use Rattle.std.specs.declared.option.Option.TheVariants.{None, Some}
 use Rattle.bas_names.specs.declared.StreamName.TheVariants.{ConOut, ConIn}
 use Rattle.mono_model.specs.Machine.{returned, register}
-use Rattle.mono_model.specs.Program.{is_plain, headers, page_count}
 use Rattle.mono_model.specs.Calls.{error, EBADF, writable, moved, fault_code}
 use Rattle.mono_model.specs.Starting.{stack_pointer, argument_block, block_size}
 
@@ -11,26 +10,7 @@ use Rattle.mono_model.specs.Starting.{stack_pointer, argument_block, block_size}
 name : List ℕ
 name = 47 ∷ 98 ∷ 105 ∷ 110 ∷ 47 ∷ 104 ∷ 105 ∷ []
 
-code : List ℕ
-code =
-    0x13 ∷ 0x05 ∷ 0x10 ∷ 0 ∷ 0x97 ∷ 0x05 ∷ 0 ∷ 0 ∷ 0x93 ∷ 0x85 ∷ 0x05 ∷ 0x02 ∷ 0x13 ∷ 0x06 ∷ 0x30 ∷ 0 ∷
-    0x93 ∷ 0x08 ∷ 0 ∷ 0x04 ∷ 0x73 ∷ 0 ∷ 0 ∷ 0 ∷ 0x13 ∷ 0x05 ∷ 0 ∷ 0 ∷ 0x93 ∷ 0x08 ∷ 0xd0 ∷ 0x05 ∷
-    0x73 ∷ 0 ∷ 0 ∷ 0 ∷ 0x68 ∷ 0x69 ∷ 0x0a ∷ []
-
--- the program's file is of the form, and without its last byte it isn't
-program_taken : is_plain (headers 39 ++ code) ≡ true
-unfolding headers name code
-program_taken = refl
-
-program_cut : is_plain (headers 39 ++ take 38 code) ≡ false
-unfolding headers name code
-program_cut = refl
-
-pages : page_count (headers 39 ++ code) ≡ 1
-unfolding headers code
-pages = refl
-
--- its stack pointer is 0x3FFFFFFFD0, and its argument block has 40 bytes
+-- where its one argument is its name, its stack pointer is 0x3FFFFFFFD0, and its argument block has 40 bytes
 stack : stack_pointer (name ∷ []) ≡ 0x3FFFFFFFD0
 unfolding name
 stack = refl

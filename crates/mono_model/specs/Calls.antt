@@ -1,6 +1,6 @@
--- What a trapped thread's system call or fault does, in one step on whole texts, and what it writes.
--- The numbers of the calls and of the errors are Linux's generic ones. The number stands in a7,
--- arguments in a0 to a5, the result in a0.
+-- What a trapped thread's system call or fault does, in one step on whole texts, and what it
+-- writes. The numbers of the calls and of the errors are Linux's generic ones. The number stands in
+-- a7, arguments in a0 to a5, the result in a0.
 use Rattle.std.specs.Prelude.{ℕ, ◌-◌, ◌%◌, ◌^◌, ◌==◌, Bool, false, not, ◌&&◌, if◌then◌else◌, List, [], map, filter, length, min, bit_and}
 use Rattle.std.specs.List.{list_any}
 use Rattle.std.specs.Ordering.{nat_cmp}

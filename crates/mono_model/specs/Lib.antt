@@ -1,7 +1,6 @@
 pub mod Readable
 pub mod Machine
 pub mod Written
-pub mod Program
 pub mod Calls
 pub mod Turns
 pub mod Starting

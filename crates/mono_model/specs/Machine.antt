@@ -1,5 +1,6 @@
 -- The monolithic machine: processes, threads and open descriptions by their ids, where its threads
--- stand, and the files and the input. It has no output: what is written is what a turn answers.
+-- stand, the files and the input, and the lists of rules that a file's name passes. It has no
+-- output: what is written is what a turn answers.
 use Rattle.std.specs.Prelude.{ℕ, ◌+◌, ◌-◌, ◌%◌, ◌^◌, ◌==◌, Bool, false, List, [], ◌∷◌, slice_index, slice_set}
 use Rattle.std.specs.Ordering.{nat_cmp}
 use Rattle.std.specs.FinMap.{FinMap, get, insert, empty}
@@ -8,10 +9,11 @@ use Rattle.std.specs.declared.option.Option.TheVariants.{None, Some}
 use Rattle.rv_core.specs.declared.context.Context.{Context}
 use Rattle.guest_space.specs.Space.{Space}
 use Rattle.bas_edge.specs.Files.{Files}
+use Rattle.bas_names.specs.declared.Rule.{Rule}
 use Rattle.bas_names.specs.declared.StreamName.{StreamName}
 use Rattle.turn_sched.specs.Lists.{Lists, with_ready}
-use Rattle.abi_calls.specs.declared.settings.Positions.{Positions}
-use Rattle.abi_calls.specs.declared.settings.Settings.{Settings}
+use Rattle.turn_sched.specs.declared.settings.Positions.{Positions}
+use Rattle.turn_sched.specs.declared.settings.Settings.{Settings}
 
 -- An open description: what it is open on, and its access (1 to read, 2 to write, added up).
 pub record Description : Type 0 where
@@ -51,6 +53,7 @@ pub record Mono : Type 0 where
   pub threads : FinMap nat_cmp Thread
   pub descriptions : FinMap nat_cmp Description
   pub lists : Lists Waiter
+  pub rules : List (List Rule)
   pub files : Files
   pub input : List ℕ
   pub next_id : ℕ

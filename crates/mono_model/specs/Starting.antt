@@ -11,19 +11,23 @@ use Rattle.std.specs.declared.result.Result.TheVariants.{Ok, Err}
 use Rattle.rv_core.specs.declared.context.Context.{Context}
 use Rattle.guest_space.specs.Space.{Space, memory_of, with_run, protected, with_memory}
 use Rattle.guest_space.specs.Access.{with_bytes}
-use Rattle.bas_edge.specs.Files.{file_of}
+use Rattle.bas_edge.specs.Files.{Files, file_of}
+use Rattle.bas_names.specs.Names.{Passed, Named, passed, judged}
+use Rattle.bas_names.specs.declared.Rule.{Rule}
 use Rattle.bas_names.specs.declared.StreamName.TheVariants.{ConIn, ConOut, ConErr}
-use Rattle.abi_calls.specs.declared.settings.Positions.{Positions}
-use Rattle.abi_calls.specs.declared.settings.Settings.{Settings}
+use Rattle.turn_sched.specs.declared.settings.Positions.{Positions}
+use Rattle.turn_sched.specs.declared.settings.Settings.{Settings}
 use Rattle.mono_model.specs.Readable.{Readable}
 use Rattle.mono_model.specs.Machine.{Mono, Description}
+use Rattle.elf_loader.specs.declared.ElfError.{ElfError}
 use Rattle.elf_loader.specs.declared.Program.{Program}
 use Rattle.elf_loader.specs.declared.Run.{Run}
+use Rattle.elf_loader.specs.Image as elf
+use Rattle.elf_loader.specs.Image.{page_count}
 use Rattle.turn_sched.specs.Lists.{no_threads, with_ready}
-use Rattle.mono_model.specs.declared.ProgramRefusal.{ProgramRefusal}
-use Rattle.mono_model.specs.Program.{program_of}
 
--- The name of the program that is opened, and the program's arguments, of which the first is its own name.
+-- The name of the program that is opened, and the program's arguments, of which the first is its
+-- own name.
 pub record Job : Type 0 where
   pub name : List ℕ
   pub args : List (List ℕ)
@@ -33,21 +37,36 @@ pub record Job : Type 0 where
 pub data Started : Type 0 where
   Runs : Mono → Started
   NoProgram : Started
-  BadProgram : (cause : ProgramRefusal) → Started
+  BadProgram : (cause : ElfError) → Started
 
--- The machine before the start.
-abbrev pub blank : Settings → Positions → Readable → Mono
-blank settings positions c = record {
+-- The machine before the start, with these lists of rules on names, or with none.
+abbrev pub blank_under : List (List Rule) → Settings → Positions → Readable → Mono
+blank_under rules settings positions c = record {
   processes = empty;
   threads = empty;
   descriptions = empty;
   lists = no_threads;
+  rules = rules;
   files = c.files;
   input = c.input;
   next_id = 1;
   positions = positions;
   settings = settings;
 }
+
+abbrev pub blank : Settings → Positions → Readable → Mono
+blank settings positions c = blank_under [] settings positions c
+
+-- A name where a list ends it leads to no file; where it lets it through, to what is below.
+abbrev pub file_below : (List ℕ → Option (List ℕ)) → Passed → Option (List ℕ)
+file_below below (Named name) = below name
+file_below below _ = None
+
+-- The file that a name leads to through lists of rules, top first; it passes each list once.
+abbrev pub file_under : List (List Rule) → Files → List ℕ → Option (List ℕ)
+file_under [] files name = file_of files name
+file_under (rules ∷ lists) files name =
+    file_below (file_under lists files) (judged 1 (passed rules name))
 
 -- The stack: 16 pages that end at address 2^38 and can be read and written.
 abbrev pub STACK_PAGE : ℕ
@@ -59,8 +78,8 @@ STACK_PAGES = 16
 abbrev pub STACK_END : ℕ
 STACK_END = 2 ^ 38
 
--- The argument block: the count, a pointer to each argument, two zero words, all of 8 bytes, and the arguments, each
--- with a zero byte.
+-- The argument block: the count, a pointer to each argument, two zero words, all of 8 bytes, and
+-- the arguments, each with a zero byte.
 abbrev pub block_size : List (List ℕ) → ℕ
 block_size args = 8 * (length args + 3) + sum_by (λ arg. length arg + 1) args
 
@@ -74,26 +93,25 @@ pointers at (arg ∷ args) = to_le_bytes w64 at ++ pointers (at + length arg + 1
 
 abbrev pub block_at : ℕ → List (List ℕ) → List ℕ
 block_at sp args =
-    to_le_bytes w64 (length args) ++ (pointers (sp + 8 * (length args + 3)) args ++ (replicate 16 0 ++ flat_map (λ arg. arg ++ 0 ∷ []) args))
+    to_le_bytes w64 (length args) ++ (pointers (sp + 8 * (length args + 3)) args ++
+    (replicate 16 0 ++ flat_map (λ arg. arg ++ 0 ∷ []) args))
 
 abbrev pub argument_block : List (List ℕ) → List ℕ
 argument_block args = block_at (stack_pointer args) args
-
-abbrev pub pages_in : Run → ℕ
-pages_in run = length run.bytes / 4096
 
 -- The bytes of a run written from the n-th on, and then its rights.
 abbrev pub filled_from : Space → ℕ → List ℕ → Space
 filled_from s at bytes = with_memory s (with_bytes (memory_of s) at bytes)
 
 abbrev pub with_rights_of : Space → Run → Space
-with_rights_of s run = protected s run.page (pages_in run) run.rights
+with_rights_of s run = protected s run.page (page_count run) run.rights
 
 abbrev pub with_pages_of : Space → Run → Space
-with_pages_of s run = with_run s run.page (pages_in run) 3
+with_pages_of s run = with_run s run.page (page_count run) 3
 
 abbrev pub loaded_run : Space → Run → Space
-loaded_run s run = with_rights_of (filled_from (with_pages_of s run) (run.page * 4096) run.bytes) run
+loaded_run s run =
+    with_rights_of (filled_from (with_pages_of s run) (run.page * 4096) run.bytes) run
 
 -- Each run's pages are made, filled and given their rights.
 abbrev pub loaded : Space → List Run → Space
@@ -112,7 +130,8 @@ stacked s args = with_block (with_stack s) args
 
 -- The registers of a thread that begins: the program's entry, the stack pointer, and 0.
 abbrev pub start_context : Program → List (List ℕ) → Context
-start_context program args = record { pc = program.entry; x = 0 ∷ stack_pointer args ∷ replicate 29 0 }
+start_context program args =
+    record { pc = program.entry; x = 0 ∷ stack_pointer args ∷ replicate 29 0 }
 
 -- The descriptors of process 1 name its descriptions: console input, output and errors.
 abbrev pub console_descriptors : FinMap nat_cmp ℕ
@@ -120,7 +139,10 @@ console_descriptors = insert (insert (insert empty 2 3) 1 2) 0 1
 
 abbrev pub console_descriptions : FinMap nat_cmp Description
 console_descriptions =
-    insert (insert (insert empty 3 (record { stream = ConErr; access = 2 })) 2 (record { stream = ConOut; access = 2 })) 1 (record { stream = ConIn; access = 1 })
+    insert (insert (insert empty
+    3 (record { stream = ConErr; access = 2 }))
+    2 (record { stream = ConOut; access = 2 }))
+    1 (record { stream = ConIn; access = 1 })
 
 -- A process begins with one thread, which becomes ready; both get the next id.
 abbrev pub with_child : Mono → Space → Context → FinMap nat_cmp ℕ → Mono
@@ -140,14 +162,14 @@ abbrev pub begun : Mono → Space → Context → Mono
 begun m memory context =
     record (with_child m memory context console_descriptors) { descriptions = console_descriptions }
 
-abbrev pub begun_from : Mono → List (List ℕ) → Result Program ProgramRefusal → Started
+abbrev pub begun_from : Mono → List (List ℕ) → Result Program ElfError → Started
 begun_from m args (Err cause) = BadProgram cause
 begun_from m args (Ok program) =
     Runs (begun m (stacked (loaded empty program.runs) args) (start_context program args))
 
 -- The file's bytes are the program.
 abbrev pub started_with : Mono → List (List ℕ) → List ℕ → Started
-started_with m args file = begun_from m args (program_of file)
+started_with m args file = begun_from m args (elf.loaded file)
 
 abbrev pub started_if : Mono → List (List ℕ) → Option (List ℕ) → Started
 started_if m args None = NoProgram
@@ -155,7 +177,7 @@ started_if m args (Some file) = started_with m args file
 
 -- The program's file is opened.
 abbrev pub started : Mono → Job → Started
-started m job = started_if m job.args (file_of m.files job.name)
+started m job = started_if m job.args (file_under m.rules m.files job.name)
 
 -- A run's start: at turn 0, over these files and this input.
 abbrev pub boot : Settings → Readable → Job → Started

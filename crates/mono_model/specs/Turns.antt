@@ -1,5 +1,5 @@
 -- Turns of the machine, and its runs.
-use Rattle.std.specs.Prelude.{ℕ, zero, suc, ◌+◌, ◌*◌, ◌%◌, ◌^◌, Bool, true, false, ◌&&◌, ◌||◌, not, if◌then◌else◌, List, [], ◌∷◌, is_some, slice_index}
+use Rattle.std.specs.Prelude.{ℕ, zero, suc, Bool, true, false, ◌&&◌, ◌||◌, not, if◌then◌else◌, List, [], ◌∷◌, is_some}
 use Rattle.std.specs.List.{list_any}
 use Rattle.std.specs.declared.option.Option.{Option}
 use Rattle.std.specs.declared.option.Option.TheVariants.{None, Some}
@@ -7,8 +7,7 @@ use Rattle.rv_core.specs.declared.context.Context.{Context}
 use Rattle.guest_space.specs.Space.{Space}
 use Rattle.guest_space.specs.Running.{Ran, run_space}
 use Rattle.turn_sched.specs.Lists.{with_woken, picked_place, picked_by, without_place}
-use Rattle.abi_calls.specs.Objects.{next_position}
-use Rattle.abi_calls.specs.Turn.{is_past}
+use Rattle.turn_sched.specs.Clock.{after_idle, after_pick, time_at, is_past, pick_word_at}
 use Rattle.mono_model.specs.Machine.{Mono, Process, Thread, Target, Opened, Exits, Wakes, Gone, Waiter, process_at, thread_at, with_process, with_context, made_ready, exit_code, is_woken}
 use Rattle.mono_model.specs.Written.{Written, nothing, and_then}
 use Rattle.mono_model.specs.Calls.{Trap, Served, silently, memory_at, served}
@@ -23,7 +22,7 @@ has_come m Gone = true
 
 -- The time, in nanoseconds.
 abbrev pub time_of : Mono → ℕ
-time_of m = (m.settings.start + m.settings.step * m.positions.turns) % 2 ^ 64
+time_of m = time_at m.settings m.positions
 
 abbrev pub is_due : Mono → Waiter → Bool
 is_due m w = list_any (has_come m) w.targets || is_past (time_of m) w.deadline
@@ -36,8 +35,7 @@ abbrev pub waits_for_time : Mono → Bool
 waits_for_time m = list_any (λ w. is_some w.deadline) m.lists.waiting
 
 abbrev pub with_turn : Mono → Mono
-with_turn m =
-    record m { positions = record m.positions { turns = next_position m.positions.turns } }
+with_turn m = record m { positions = after_idle m.positions }
 
 -- Second: where no thread is ready, time passes if one waits for a time, and else nothing will
 -- happen.
@@ -55,16 +53,13 @@ is_stuck m = is_nobody (awoken m).lists.ready && not (waits_for_time (awoken m))
 -- Third: the next word of the tape, 0 past its end, picks a place of the ready list, modulo how
 -- many are ready.
 abbrev pub pick_word : Mono → ℕ
-pick_word m = slice_index m.settings.picks m.positions.pick
+pick_word m = pick_word_at m.settings m.positions
 
 -- The thread at a place leaves the ready list, and both positions rise.
 abbrev pub with_pick : Mono → ℕ → Mono
 with_pick m place = record m {
   lists = without_place m.lists place;
-  positions = record m.positions {
-    turns = next_position m.positions.turns;
-    pick = next_position m.positions.pick;
-  };
+  positions = after_pick m.positions;
 }
 
 abbrev pub with_memory_in : Mono → ℕ → Space → Option Process → Mono

@@ -17,11 +17,6 @@ pub update-absent : {A : Type 0} (find : List ℕ → Option A) (name : List ℕ
 update-absent find name w other absent =
     cond-absent (find other) w (bytes_eq name other) (λ same. sym (ap find ((bytes_eq-Decides name other).0 same)) ∙ absent)
 
--- A definition that is there counts before a later one.
-pub otherwise-present : {A : Type 0} (o w : Option A) (b : Bool) (a : A) → (b ≡ true → o ≡ Some a) → o ≡ otherwise o (cond b w None)
-otherwise-present o w true a present = rw (present refl) refl
-otherwise-present o w false a present = sym (otherwise-none o)
-
 pub otherwise-assoc : {A : Type 0} (o p q : Option A) → otherwise (otherwise o p) q ≡ otherwise o (otherwise p q)
 otherwise-assoc None p q = refl
 otherwise-assoc (Some a) p q = refl

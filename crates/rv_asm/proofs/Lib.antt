@@ -1,8 +1,11 @@
+pub mod Addresses
 pub mod CauseLists
 mod Examples
 pub mod LabelLists
 pub mod Nearest
 pub mod OperandLists
+pub mod Parts
+pub mod Places
 pub mod ProgramLists
 pub mod Ranges
 pub mod Refusals

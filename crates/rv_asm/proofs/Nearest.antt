@@ -17,8 +17,8 @@ use Rattle.rv_asm.specs.declared.statement.Width.{Width}
 use Rattle.rv_asm.specs.declared.statement.Width.TheVariants as widths
 use Rattle.rv_asm.specs.declared.statement.Statement.{Statement}
 use Rattle.rv_asm.specs.declared.statement.Statement.TheVariants.{Plain, Upper, Branch, Jump, LoadNumber, LoadAddress, Bytes, Numbers, Zeros, Align}
-use Rattle.rv_asm.specs.Answers.{nearest_statement, nearest_said, nearest_line}
-use Rattle.rv_asm.specs.Encoding.{instr, fits_half, fits_width, fits_word, fits_values, instructions_of, is_undefined, is_big, is_short, count_of, padding, limit, statement_size, width_size, bytes_of, address_behind, farthest}
+use Rattle.rv_asm.specs.Answers.{farthest, nearest_address, nearest_statement, nearest_said, nearest_line}
+use Rattle.rv_asm.specs.Encoding.{instr, fits_half, fits_width, fits_word, fits_values, instructions_of, is_undefined, is_big, is_short, count_of, padding, limit, statement_size, width_size, bytes_of}
 use Rattle.rv_asm.specs.Line.{is_twice, size_of, line_end, line_bytes}
 use Rattle.rv_asm.proofs.Ranges.{encoded-far}
 
@@ -78,29 +78,29 @@ same-test test z fails = by (near_or_far z)
 -- Sizes
 
 size-nearest : (at : ℕ) (s : Statement)
-    → address_behind at (statement_size at (nearest_statement s)) ≡ address_behind at (statement_size at s)
+    → nearest_address (at + statement_size at (nearest_statement s)) ≡ nearest_address (at + statement_size at s)
 size-nearest at (Plain o rd rs1 rs2 n) = refl
 size-nearest at (Upper o rd n) = refl
 size-nearest at (Branch o rs1 rs2 label) = refl
 size-nearest at (Jump rd label) = refl
 size-nearest at (LoadNumber rd n) =
-    ap (λ b. address_behind at (cond b 4 8)) (same-test is_short n (λ y far. far-signed (2 ^ 11) y (omega arith) far))
+    ap (λ b. nearest_address (at + cond b 4 8)) (same-test is_short n (λ y far. far-signed (2 ^ 11) y (omega arith) far))
 size-nearest at (LoadAddress rd label) = refl
 size-nearest at (Bytes bytes) = refl
-size-nearest at (Numbers width ns) = ap (λ k. address_behind at (width_size width * k)) (length-map ns nearest)
+size-nearest at (Numbers width ns) = ap (λ k. nearest_address (at + width_size width * k)) (length-map ns nearest)
 size-nearest at (Zeros (pos n)) =
     let e : min farthest (at + min largest n) ≡ min farthest (at + n) = omega arith in e
 size-nearest at (Zeros (negsuc n)) = refl
 size-nearest at (Align n) = by (near_or_far n)
   where
     by : (nearest n ≡ n) ⊎ (IsFar n × IsFar (nearest n))
-        → address_behind at (statement_size at (Align (nearest n))) ≡ address_behind at (statement_size at (Align n))
-    by (inl near) = ap (λ z. address_behind at (statement_size at (Align z))) near
+        → nearest_address (at + statement_size at (Align (nearest n))) ≡ nearest_address (at + statement_size at (Align n))
+    by (inl near) = ap (λ z. nearest_address (at + statement_size at (Align z))) near
     by (inr far) =
         let a : is_below 13 (nearest n) ≡ false = far-below 13 (nearest n) (omega arith) far.1 in
         let b : is_below 13 n ≡ false = far-below 13 n (omega arith) far.0 in
-        ap (λ t. address_behind at (cond t (padding at (count_of (nearest n))) 0)) a
-        ∙ sym (ap (λ t. address_behind at (cond t (padding at (count_of n)) 0)) b)
+        ap (λ t. nearest_address (at + cond t (padding at (count_of (nearest n))) 0)) a
+        ∙ sym (ap (λ t. nearest_address (at + cond t (padding at (count_of n)) 0)) b)
 
 -- Bytes
 
@@ -202,12 +202,12 @@ bytes_of-nearest find at (Align n) =
 -- Lines
 
 said-size : (at : ℕ) (said : Result (Option Statement) AsmCause)
-    → address_behind at (size_of at (nearest_said said)) ≡ address_behind at (size_of at said)
+    → nearest_address (at + size_of at (nearest_said said)) ≡ nearest_address (at + size_of at said)
 said-size at (Ok (Some s)) = size-nearest at s
 said-size at (Ok None) = refl
 said-size at (Err cause) = refl
 
-pub line_end-nearest : (at : ℕ) (line : Line) → line_end at (nearest_line line) ≡ line_end at line
+pub line_end-nearest : (at : ℕ) (line : Line) → nearest_address (line_end at (nearest_line line)) ≡ nearest_address (line_end at line)
 line_end-nearest at line = said-size at line.statement
 
 said-bytes : (find : List ℕ → Option Definition) (number at : ℕ) (label : Option (List ℕ)) (said : Result (Option Statement) AsmCause)

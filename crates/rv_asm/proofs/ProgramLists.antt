@@ -3,7 +3,6 @@ use denote.Ref.{Bor}
 use Rattle.asm_text.proofs.TextLists.{bytes_left}
 use Rattle.std.proofs.Common.{◌≡◌, ◌≢◌, MatchOption, ◌<◌, ◌≤◌, ℕ, ◌+◌, List, [], ◌∷◌, ◌++◌, Option, Some, None, Result, Ok, Err, refl, sym, ap, ◌∙◌, append_assoc, suc, length, subst, arith, IsOk}
 use Rattle.std.specs.List.{flat_map, AllByRecursion}
-use Rattle.std.proofs.Math.Path.{fun_ext}
 use Rattle.std.proofs.lemmas.List.{append-nil}
 use Rattle.rv_asm.specs.declared.AsmCause.{AsmCause}
 use Rattle.rv_asm.specs.declared.AsmError.{AsmError}
@@ -13,29 +12,10 @@ use Rattle.rv_asm.specs.declared.refusal.LineError.TheVariants.{Refused, Memory}
 use Rattle.rv_asm.specs.declared.labels.Definition.{Definition}
 use Rattle.rv_asm.specs.Answers.{error_at}
 use Rattle.rv_asm.specs.Words.{HasAppended, HasPlaced}
-use Rattle.rv_asm.specs.Labels.{otherwise, own_definition}
 use Rattle.rv_asm.specs.Line.{read, line_end, line_bytes}
 use Rattle.asm_text.specs.Text.{lines}
-use Rattle.rv_asm.specs.Encoding.{base}
 use Rattle.rv_asm.specs.File.{file_of}
-use Rattle.rv_asm.specs.Program.{definition_in, definition_of, places_in, outcomes_in, outcomes, gathered, in_front, program_of, filed, assembled, bytes_or_none, IsFirstRefused, IsFileOf, Tells, Follows}
-use Rattle.rv_asm.proofs.LabelLists.{otherwise-none, otherwise-assoc}
-
--- A line adds its own definition of a label, unless there is an earlier one.
-pub definition_in-line : (old new : Option Definition) (number at : ℕ) (line : List ℕ) (lines : List (List ℕ)) (name : List ℕ)
-    → new ≡ otherwise old (own_definition number at (read line).label name)
-    → otherwise old (definition_in number at (line ∷ lines) name)
-    ≡ otherwise new (definition_in (number + 1) (line_end at (read line)) lines name)
-unfolding definition_in
-definition_in-line old new number at line lines name added =
-    sym (otherwise-assoc old (own_definition number at (read line).label name)
-    (definition_in (number + 1) (line_end at (read line)) lines name))
-    ∙ ap (λ o. otherwise o (definition_in (number + 1) (line_end at (read line)) lines name)) (sym added)
-
-pub definition_in-end : (old : Option Definition) (number at : ℕ) (name : List ℕ)
-    → otherwise old (definition_in number at [] name) ≡ old
-unfolding definition_in
-definition_in-end old number at name = otherwise-none old
+use Rattle.rv_asm.specs.Program.{places_in, outcomes_in, outcomes, gathered, in_front, program_of, filed, assembled, bytes_or_none, IsFirstRefused, IsFileOf, Tells, Follows}
 
 pub in_front-none : (r : Result (List ℕ) AsmError) → r ≡ in_front [] r
 in_front-none (Ok bytes) = refl
@@ -100,13 +80,6 @@ gathered-gathers number (Err cause ∷ results) =
       count = count;
       accepted = tt;
     }
-
--- What comes of a text under its labels.
-pub program_of-labels : (text : List ℕ) (find : List ℕ → Option Definition)
-    → ((name : List ℕ) → find name ≡ definition_of text name)
-    → gathered 1 (outcomes_in find 1 base (lines text)) ≡ program_of text
-unfolding program_of
-program_of-labels text find same = ap (λ f. gathered 1 (outcomes_in f 1 base (lines text))) (fun_ext same)
 
 pub follows-file : (text bytes : List ℕ) → program_of text ≡ Ok bytes → IsFileOf (outcomes text) (file_of bytes)
 unfolding program_of

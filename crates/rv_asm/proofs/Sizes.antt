@@ -12,7 +12,7 @@ use Rattle.rv_asm.specs.declared.statement.Width.{Width}
 use Rattle.rv_asm.specs.declared.statement.Width.TheVariants as widths
 use Rattle.rv_asm.specs.declared.statement.Statement.{Statement}
 use Rattle.rv_asm.specs.declared.statement.Statement.TheVariants.{Plain, Upper, Branch, Jump, LoadNumber, LoadAddress, Bytes, Numbers, Zeros, Align}
-use Rattle.rv_asm.specs.Encoding.{instructions_of, data_of, word_of, word_bytes, number_bytes, statement_bytes, statement_size, width_size, count_of, is_short, is_undefined, fits_values, is_big, limit, bytes_of, address_behind, farthest}
+use Rattle.rv_asm.specs.Encoding.{instructions_of, data_of, word_of, word_bytes, number_bytes, statement_bytes, statement_size, width_size, count_of, is_short, is_undefined, fits_values, is_big, limit, bytes_of}
 use Rattle.rv_asm.specs.Line.{is_twice, line_bytes, line_end}
 
 width-size : (width : Width) (n : ℤ) → length (number_bytes width n) ≡ width_size width
@@ -55,34 +55,51 @@ taken false false big given bytes e = cc
 taken false true true given bytes e = cc
 taken false true false given bytes e = let same : given ≡ bytes = cc in (refl, same)
 
-bytes_of-size : (find : List ℕ → Option Definition) (at : ℕ) (s : Statement) (bytes : List ℕ) → bytes_of find at s ≡ Ok bytes
-    → address_behind at (statement_size at s) ≡ at + length bytes
-unfolding bytes_of
-bytes_of-size find at s bytes e =
-    let h = taken (is_undefined find s) (fits_values find at s) (is_big at s) (statement_bytes find at s) bytes e in
-    let within : at + statement_size at s ≤ limit = ltb-false limit (at + statement_size at s) h.0 in
-    let long : length bytes ≡ statement_size at s = ap length (sym h.1) ∙ statement_bytes-size find at s in
-    omega (arith, within, long)
+module _ (find : List ℕ → Option Definition) (at : ℕ) (s : Statement) (bytes : List ℕ) (ok : bytes_of find at s ≡ Ok bytes) where
+  bytes_of-parts : (is_big at s ≡ false) × (statement_bytes find at s ≡ bytes)
+  unfolding bytes_of
+  bytes_of-parts = taken (is_undefined find s) (fits_values find at s) (is_big at s) (statement_bytes find at s) bytes ok
 
-twice-size : (twice : Bool) (given : Result (List ℕ) AsmCause) (bytes : List ℕ)
+  -- What is accepted ends at the limit at most.
+  pub within-accepted : at + statement_size at s ≤ limit
+  within-accepted = ltb-false limit (at + statement_size at s) bytes_of-parts.0
+
+  bytes_of-size : at + statement_size at s ≡ at + length bytes
+  bytes_of-size =
+      let long : length bytes ≡ statement_size at s = ap length (sym bytes_of-parts.1) ∙ statement_bytes-size find at s in
+      omega (arith, long)
+
+once : (twice : Bool) (given : Result (List ℕ) AsmCause) (bytes : List ℕ)
     → cond twice (Err causes.Twice) given ≡ Ok bytes → given ≡ Ok bytes
-twice-size true given bytes e = cc
-twice-size false given bytes e = e
+once true given bytes e = cc
+once false given bytes e = e
 
 said-size : (find : List ℕ → Option Definition) (number at : ℕ) (label : Option (List ℕ)) (said : Result (Option Statement) AsmCause)
-    (bytes : List ℕ) → at ≤ farthest → line_bytes find number at (record { label = label; statement = said }) ≡ Ok bytes
+    (bytes : List ℕ) → line_bytes find number at (record { label = label; statement = said }) ≡ Ok bytes
     → line_end at (record { label = label; statement = said }) ≡ at + length bytes
 unfolding line_bytes
-said-size find number at label (Ok (Some s)) bytes within e =
-    bytes_of-size find at s bytes (twice-size (is_twice find number label) _ bytes e)
-said-size find number at label (Ok None) bytes within e =
-    let none : Ok [] ≡ Ok bytes = twice-size (is_twice find number label) (Ok []) bytes e in
-    let same : [] ≡ bytes = cc in
-    let here : address_behind at 0 ≡ at + 0 = omega (arith, within) in
-    here ∙ ap (λ (bs : List ℕ). at + length bs) same
-said-size find number at label (Err cause) bytes within e = cc
+said-size find number at label (Ok (Some s)) bytes e =
+    bytes_of-size find at s bytes (once (is_twice find number label) _ bytes e)
+said-size find number at label (Ok None) bytes e =
+    let none : Ok [] ≡ Ok bytes = once (is_twice find number label) (Ok []) bytes e in
+    let same : [] ≡ bytes = cc in ap (λ (bs : List ℕ). at + length bs) same
+said-size find number at label (Err cause) bytes e = cc
 
 -- The address behind an accepted line is its own and the number of its bytes.
-pub line_end-bytes : (find : List ℕ → Option Definition) (number at : ℕ) (line : Line) (bytes : List ℕ) → at ≤ farthest
+pub line_end-bytes : (find : List ℕ → Option Definition) (number at : ℕ) (line : Line) (bytes : List ℕ)
     → line_bytes find number at line ≡ Ok bytes → line_end at line ≡ at + length bytes
-line_end-bytes find number at line bytes within e = said-size find number at line.label line.statement bytes within e
+line_end-bytes find number at line bytes e = said-size find number at line.label line.statement bytes e
+
+said-within : (find : List ℕ → Option Definition) (number at : ℕ) (label : Option (List ℕ)) (said : Result (Option Statement) AsmCause)
+    (bytes : List ℕ) → at ≤ limit → line_bytes find number at (record { label = label; statement = said }) ≡ Ok bytes
+    → line_end at (record { label = label; statement = said }) ≤ limit
+unfolding line_bytes
+said-within find number at label (Ok (Some s)) bytes here e =
+    let size = within-accepted find at s bytes (once (is_twice find number label) _ bytes e) in omega (arith, size)
+said-within find number at label (Ok None) bytes here e = omega arith
+said-within find number at label (Err cause) bytes here e = cc
+
+-- The address behind an accepted line is at the limit at most, if its own is.
+pub line_end-within : (find : List ℕ → Option Definition) (number at : ℕ) (line : Line) (bytes : List ℕ) → at ≤ limit
+    → line_bytes find number at line ≡ Ok bytes → line_end at line ≤ limit
+line_end-within find number at line bytes here e = said-within find number at line.label line.statement bytes here e

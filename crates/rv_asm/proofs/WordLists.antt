@@ -30,12 +30,6 @@ HasWords-two i j w v first second =
     let all : list_all fits_word (i ∷ j ∷ []) ≡ true = rw (a.0, b.0) refl in
     (refl, all, ap (λ x. x ∷ v ∷ []) a.1 ∙ ap (λ x. word_of i ∷ x ∷ []) b.1)
 
--- One of them is refused.
-pub HasWords-first : (i j : Instr) (r : Result Words AsmCause) (cause : AsmCause) → r ≡ Err cause → Err cause ≡ ok_or (encoded i) causes.Range
-    → HasWords r false (list_all fits_word (i ∷ j ∷ [])) (i ∷ j ∷ [])
-HasWords-first i j r cause is refused =
-    let a = word-none i (encoded i) cause refl refused in rw (is, a.0, a.1) refl
-
 pub HasWords-second : (i j : Instr) (r : Result Words AsmCause) (w : ℕ) (cause : AsmCause) → r ≡ Err cause
     → Ok w ≡ ok_or (encoded i) causes.Range → Err cause ≡ ok_or (encoded j) causes.Range
     → HasWords r false (list_all fits_word (i ∷ j ∷ [])) (i ∷ j ∷ [])

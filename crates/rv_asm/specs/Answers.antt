@@ -1,6 +1,6 @@
--- What the program's own functions answer: what is wanted or a refusal, where memory may run out, and numbers as its
--- types hold them. No answer of the assembler depends on how they are held.
-use Rattle.std.specs.Prelude.{◌≡◌, ℕ, List, map, Option, option_map, ℤ, Result, Ok, Err}
+-- What the program's own functions answer: what is wanted or a refusal, where memory may run out,
+-- and numbers as its types hold them. No answer of the assembler depends on how they are held.
+use Rattle.std.specs.Prelude.{◌≡◌, ℕ, ◌-◌, ◌^◌, min, List, map, Option, option_map, ℤ, Result, Ok, Err}
 use Rattle.asm_text.specs.Numbers.{nearest}
 use Rattle.rv_asm.specs.declared.AsmCause.{AsmCause}
 use Rattle.rv_asm.specs.declared.AsmError.{AsmError}
@@ -9,6 +9,7 @@ use Rattle.rv_asm.specs.declared.refusal.LineError.{LineError}
 use Rattle.rv_asm.specs.declared.refusal.LineError.TheVariants.{Refused, Memory}
 use Rattle.rv_asm.specs.declared.statement.Statement.{Statement}
 use Rattle.rv_asm.specs.declared.statement.Statement.TheVariants.{Plain, Upper, Branch, Jump, LoadNumber, LoadAddress, Bytes, Numbers, Zeros, Align}
+use Rattle.rv_asm.specs.declared.labels.Definition.{Definition}
 use Rattle.rv_asm.specs.declared.line.Line.{Line}
 use Rattle.rv_asm.specs.Operands.{value_of}
 
@@ -45,3 +46,14 @@ nearest_said (Err cause) = Err cause
 
 abbrev pub nearest_line : Line → Line
 nearest_line line = record { label = line.label; statement = nearest_said line.statement }
+
+-- The greatest address of 64 bits, and the nearest of these to an address: that address itself, or
+-- both are behind the limit.
+abbrev pub farthest : ℕ
+farthest = 2 ^ 64 - 1
+
+abbrev pub nearest_address : ℕ → ℕ
+nearest_address at = min farthest at
+
+abbrev pub nearest_definition : Definition → Definition
+nearest_definition d = record { line = d.line; address = nearest_address d.address }

@@ -46,7 +46,8 @@ abbrev pub fits : (List ℕ → Option Definition) → Place → AsmCause → Bo
 fits find p causes.Text = not (is_utf8 p.line) || has_fault (uncommented p.line) (operands p.line)
 fits find p causes.Mnemonic = is_unknown p.line && not (is_directive (word p.line))
 fits find p causes.Directive = is_unknown p.line && is_directive (word p.line)
-fits find p causes.Operand = of_word (λ w. not (are_operands (syntax_of w) (operands p.line))) p.line
+fits find p causes.Operand =
+    of_word (λ w. not (are_operands (syntax_of w) (operands p.line))) p.line
 fits find p causes.Number = of_word (λ w. not (are_spelled (syntax_of w) (operands p.line))) p.line
 fits find p causes.Twice = is_twice find p.number (label p.line)
 fits find p causes.Label = of_statement (is_undefined find) p.line
@@ -80,8 +81,10 @@ pub record IsAccused (text : List ℕ) (number : ℕ) (cause : AsmCause) : Type 
   pub numbered : line.number ≡ number
   pub first : IsFirstFitting (fits (definition_of text) line) cause
 
--- What the answer says of causes: that of the refused line is the first that fits, and none fits a line of a file.
+-- What the answer says of causes: that of the refused line is the first that fits, and none fits a
+-- line of a file.
 abbrev pub HasCause : List ℕ → Result (List ℕ) AsmError → Type 0
-HasCause text (Ok file) = AllByRecursion (λ line. FitsNone (fits (definition_of text) line)) (places text)
+HasCause text (Ok file) =
+    AllByRecursion (λ line. FitsNone (fits (definition_of text) line)) (places text)
 HasCause text (Err (errors.Line number cause)) = IsAccused text number cause
 HasCause text (Err errors.Memory) = Unit {0}

@@ -1,5 +1,5 @@
 -- The bytes of a statement at an address, under the labels of the text.
-use Rattle.std.specs.Prelude.{ℕ, ◌+◌, ◌-◌, ◌*◌, ◌%◌, ◌^◌, min, Bool, true, false, not, ◌&&◌, if◌then◌else◌, nat_lt, List, [], ◌∷◌, ◌++◌, length, take, map, replicate, Option, is_some, is_none, unwrap_or, ℤ, pos, negsuc, ◌-ℤ◌, ◌*ℤ◌, int_lt, Result, Ok, Err}
+use Rattle.std.specs.Prelude.{ℕ, ◌+◌, ◌-◌, ◌*◌, ◌%◌, ◌^◌, Bool, true, false, not, ◌&&◌, if◌then◌else◌, nat_lt, List, [], ◌∷◌, ◌++◌, length, take, map, replicate, Option, is_some, is_none, unwrap_or, ℤ, pos, negsuc, ◌-ℤ◌, ◌*ℤ◌, int_lt, Result, Ok, Err}
 use Rattle.std.specs.Option.{option_map_or}
 use Rattle.std.specs.List.{list_all, flat_map}
 use Rattle.std.specs.Int.{to_le_bytes, cast_unsigned, int_rem_euclid, is_negative, w32, w128}
@@ -24,22 +24,14 @@ base = 0x10078
 abbrev pub limit : ℕ
 limit = 0x110078
 
--- An address past 64 bits counts as the greatest of these, which is behind the limit too.
-abbrev pub farthest : ℕ
-farthest = 2 ^ 64 - 1
-
--- The address behind so many bytes.
-abbrev pub address_behind : ℕ → ℕ → ℕ
-address_behind at size = min farthest (at + size)
-
 -- How far a label is from an address, if it is defined.
 abbrev pub distance : (List ℕ → Option Definition) → ℕ → List ℕ → ℤ
 distance find at label = option_map_or (λ d. pos d.address -ℤ pos at) (find label) (pos 0)
 
 -- Instructions
 
--- A number is the sum of its high part, a multiple of 2^12 in 32 bits, and its low part, of 12 bits with a
--- sign. Both are so modulo 2^32.
+-- A number is the sum of its high part, a multiple of 2^12 in 32 bits, and its low part, of 12 bits
+-- with a sign. Both are so modulo 2^32.
 abbrev pub residue : ℕ → ℤ → ℤ
 residue half z =
     let r = int_rem_euclid z (pos (half + half)) in
@@ -64,7 +56,8 @@ is_short n = is_signed_by (2 ^ 11) n
 
 -- The high part of a number by one instruction, and then the low part, which another adds.
 abbrev pub two_instructions : Op → Op → ℕ → ℤ → List Instr
-two_instructions upper lower rd n = instr upper rd 0 0 (high_part n) ∷ instr lower rd rd 0 (low_part n) ∷ []
+two_instructions upper lower rd n =
+    instr upper rd 0 0 (high_part n) ∷ instr lower rd rd 0 (low_part n) ∷ []
 
 -- `li`: ADDI from x0 for a short number, else LUI and ADDIW.
 abbrev pub number_instructions : ℕ → ℤ → List Instr
@@ -193,13 +186,15 @@ word_bytes w = to_le_bytes w32 w
 
 -- The bytes of a statement.
 abbrev pub statement_bytes : (List ℕ → Option Definition) → ℕ → Statement → List ℕ
-statement_bytes find at s = flat_map word_bytes (map word_of (instructions_of find at s)) ++ data_of at s
+statement_bytes find at s =
+    flat_map word_bytes (map word_of (instructions_of find at s)) ++ data_of at s
 
 -- They take the bytes behind the headers past the limit.
 abbrev pub is_big : ℕ → Statement → Bool
 is_big at s = nat_lt limit (at + statement_size at s)
 
--- The bytes of a statement, or the first cause for which its labels, its values and its size refuse it.
+-- The bytes of a statement, or the first cause for which its labels, its values and its size refuse
+-- it.
 unfoldable pub bytes_of : (List ℕ → Option Definition) → ℕ → Statement → Result (List ℕ) AsmCause
 bytes_of find at s =
     if is_undefined find s then Err causes.Label else

@@ -73,7 +73,8 @@ word_of op.Ebreak = codes "ebreak"
 unfoldable pub op_named : List ℕ → Option Op
 op_named word = find (λ o. bytes_eq (word_of o) word) listed
 
--- The operands of an instruction, by its layout. Loads (opcode 0x03) and JALR (0x67) have an address.
+-- The operands of an instruction, by its layout. Loads (opcode 0x03) and JALR (0x67) have an
+-- address.
 abbrev pub shape_by : Layout → Shape
 shape_by (U opcode) = shapes.Upper
 shape_by (J opcode) = shapes.Jump
@@ -100,7 +101,8 @@ pseudo_word pseudos.Ret = codes "ret"
 pseudo_word pseudos.Nop = codes "nop"
 
 abbrev pub pseudos_listed : List Pseudo
-pseudos_listed = pseudos.Li ∷ pseudos.La ∷ pseudos.Mv ∷ pseudos.J ∷ pseudos.Call ∷ pseudos.Ret ∷ pseudos.Nop ∷ []
+pseudos_listed =
+    pseudos.Li ∷ pseudos.La ∷ pseudos.Mv ∷ pseudos.J ∷ pseudos.Call ∷ pseudos.Ret ∷ pseudos.Nop ∷ []
 
 unfoldable pub pseudo_named : List ℕ → Option Pseudo
 pseudo_named word = find (λ p. bytes_eq (pseudo_word p) word) pseudos_listed
@@ -115,7 +117,9 @@ directive_word directives.Zero = codes ".zero"
 directive_word directives.Align = codes ".align"
 
 abbrev pub directives_listed : List Directive
-directives_listed = directives.Ascii ∷ directives.Byte ∷ directives.Word ∷ directives.Dword ∷ directives.Zero ∷ directives.Align ∷ []
+directives_listed =
+    directives.Ascii ∷ directives.Byte ∷ directives.Word ∷ directives.Dword ∷ directives.Zero
+    ∷ directives.Align ∷ []
 
 unfoldable pub directive_named : List ℕ → Option Directive
 directive_named word = find (λ d. bytes_eq (directive_word d) word) directives_listed

@@ -12,13 +12,15 @@ use Rattle.asm_text.specs.Text.{before, behind, is_name, quoted}
 use Rattle.asm_text.specs.Numbers.{is_number, number_of}
 use Rattle.asm_text.specs.Registers.{register_of}
 
--- `n(rs1)` without blanks inside: n ends at the first parenthesis, and the other one stands at the end.
+-- `n(rs1)` without blanks inside: n ends at the first parenthesis, and the other one stands at the
+-- end.
 abbrev pub number_text : List ℕ → List ℕ
 number_text text = before (40 ∷ []) text
 
 abbrev pub without_close : List ℕ → Option (List ℕ)
 without_close text =
-    if bytes_eq (drop (length text - 1) text) (41 ∷ []) then Some (take (length text - 1) text) else None
+    if bytes_eq (drop (length text - 1) text) (41 ∷ [])
+    then Some (take (length text - 1) text) else None
 
 abbrev pub base_text : List ℕ → Option (List ℕ)
 base_text text = option_and_then without_close (behind (40 ∷ []) text)
@@ -27,7 +29,8 @@ base_text text = option_and_then without_close (behind (40 ∷ []) text)
 unfoldable pub base : List ℕ → Option ℕ
 base text = option_and_then register_of (base_text text)
 
--- An operand is of a kind. A text that begins with a digit or `-` is of the kind number, whatever follows.
+-- An operand is of a kind. A text that begins with a digit or `-` is of the kind number, whatever
+-- follows.
 abbrev pub is_of : Kind → List ℕ → Bool
 is_of Rd text = is_some (register_of text)
 is_of Rs1 text = is_some (register_of text)
@@ -97,7 +100,8 @@ abbrev pub bytes_in : List (List ℕ) → List ℕ
 bytes_in [] = []
 bytes_in (text ∷ texts) = unwrap_or (quoted text) []
 
--- What operands give, unless they are refused: the number or a kind of the operands is wrong, or a number spells none.
+-- What operands give, unless they are refused: the number or a kind of the operands is wrong, or a
+-- number spells none.
 abbrev pub unless_refused : {A : Type 0} → Syntax → List (List ℕ) → A → Result A AsmCause
 unless_refused syntax texts given =
     if not (are_operands syntax texts) then Err causes.Operand else

@@ -1,4 +1,5 @@
--- A whole text: the addresses of its lines, its labels, its bytes and the first line that is refused.
+-- A whole text: the addresses of its lines, its labels, its bytes and the first line that is
+-- refused.
 use Rattle.std.specs.Prelude.{◌≡◌, ℕ, ◌+◌, List, [], ◌∷◌, ◌++◌, length, map, Option, None, Result, Ok, Err, IsOk}
 use Rattle.std.specs.List.{flat_map, AllByRecursion}
 use Rattle.rv_asm.specs.declared.AsmCause.{AsmCause}
@@ -11,7 +12,8 @@ use Rattle.rv_asm.specs.Encoding.{base}
 use Rattle.rv_asm.specs.Line.{read, line_end, line_bytes}
 use Rattle.rv_asm.specs.File.{file_of}
 
--- What a label is by the first of the lines that defines it. The first line has that number and that address.
+-- What a label is by the first of the lines that defines it. The first line has that number and
+-- that address.
 unfoldable pub definition_in : ℕ → ℕ → List (List ℕ) → List ℕ → Option Definition
 definition_in number at [] name = None
 definition_in number at (line ∷ lines) name =
@@ -32,7 +34,8 @@ pub record Place : Type 0 where
 unfoldable pub places_in : ℕ → ℕ → List (List ℕ) → List Place
 places_in number at [] = []
 places_in number at (line ∷ lines) =
-    record { number = number; address = at; line = line } ∷ places_in (number + 1) (line_end at (read line)) lines
+    record { number = number; address = at; line = line }
+    ∷ places_in (number + 1) (line_end at (read line)) lines
 
 -- The lines of a text, the first of which is number 1.
 abbrev pub places : List ℕ → List Place
@@ -42,7 +45,8 @@ places text = places_in 1 base (lines text)
 abbrev pub outcome : (List ℕ → Option Definition) → Place → Result (List ℕ) AsmCause
 outcome find p = line_bytes find p.number p.address (read p.line)
 
-abbrev pub outcomes_in : (List ℕ → Option Definition) → ℕ → ℕ → List (List ℕ) → List (Result (List ℕ) AsmCause)
+abbrev pub outcomes_in : (List ℕ → Option Definition) → ℕ → ℕ → List (List ℕ)
+    → List (Result (List ℕ) AsmCause)
 outcomes_in find number at lines = map (outcome find) (places_in number at lines)
 
 -- What comes of each line of the text.
@@ -54,13 +58,15 @@ abbrev pub in_front : List ℕ → Result (List ℕ) AsmError → Result (List �
 in_front bytes (Ok more) = Ok (bytes ++ more)
 in_front bytes (Err error) = Err error
 
--- The bytes of the lines in a row, or the first of the lines that is refused. The first line has that number.
+-- The bytes of the lines in a row, or the first of the lines that is refused. The first line has
+-- that number.
 unfoldable pub gathered : ℕ → List (Result (List ℕ) AsmCause) → Result (List ℕ) AsmError
 gathered number [] = Ok []
 gathered number (Ok bytes ∷ outcomes) = in_front bytes (gathered (number + 1) outcomes)
 gathered number (Err cause ∷ outcomes) = Err (errors.Line number cause)
 
--- The bytes of the text behind the headers, or the first line that is refused, with its first cause.
+-- The bytes of the text behind the headers, or the first line that is refused, with its first
+-- cause.
 unfoldable pub program_of : List ℕ → Result (List ℕ) AsmError
 program_of text = gathered 1 (outcomes text)
 
@@ -80,8 +86,10 @@ Tells (Err errors.Memory) outcome = Unit {0}
 
 -- In words
 
--- The line of that number is refused for that cause, and no line before it is. The first line has the number first.
-pub record IsFirstRefused (first : ℕ) (outcomes : List (Result (List ℕ) AsmCause)) (number : ℕ) (cause : AsmCause) : Type 0 where
+-- The line of that number is refused for that cause, and no line before it is. The first line has
+-- the number first.
+pub record IsFirstRefused (first : ℕ) (outcomes : List (Result (List ℕ) AsmCause))
+    (number : ℕ) (cause : AsmCause) : Type 0 where
   pub before : List (Result (List ℕ) AsmCause)
   pub behind : List (Result (List ℕ) AsmCause)
   pub place : outcomes ≡ before ++ Err cause ∷ behind

@@ -35,7 +35,8 @@ is_directive word = starts_with nat_eq word (46 ∷ [])
 unfoldable pub word_named : List ℕ → Option Word
 word_named word =
     if is_directive word then option_map (λ d. words.Directive d) (directive_named word)
-    else option_or (option_map (λ o. words.Instruction o) (op_named word)) (option_map (λ p. words.Pseudo p) (pseudo_named word))
+    else option_or (option_map (λ o. words.Instruction o) (op_named word))
+    (option_map (λ p. words.Pseudo p) (pseudo_named word))
 
 -- The cause to refuse a word that names nothing.
 abbrev pub unknown : List ℕ → AsmCause
@@ -88,7 +89,8 @@ instruction_by shapes.Branch o f n = Branch o f.rs1 f.rs2 f.label
 instruction_by shapes.Jump o f n = Jump f.rd f.label
 instruction_by shapes.Alone o f n = Plain o f.rd f.rs1 f.rs2 n
 
--- `mv` is ADDI with 0, `j` and `call` are JAL with x0 and ra, `ret` is JALR to ra, `nop` is ADDI of x0 with 0.
+-- `mv` is ADDI with 0, `j` and `call` are JAL with x0 and ra, `ret` is JALR to ra, `nop` is ADDI of
+-- x0 with 0.
 abbrev pub pseudo_by : Pseudo → Fields → ℤ → Statement
 pseudo_by pseudos.Li f n = LoadNumber f.rd n
 pseudo_by pseudos.La f n = LoadAddress f.rd f.label
@@ -113,6 +115,8 @@ directive_by directives.Align texts = Align (number_in texts)
 -- The statement of a word with operands.
 abbrev pub statement_of : Word → List (List ℕ) → Statement
 statement_of (words.Instruction o) texts =
-    let f = fields_of (kinds_by (shape_of o)) texts in instruction_by (shape_of o) o f (value_of f.number)
-statement_of (words.Pseudo p) texts = let f = fields_of (pseudo_kinds p) texts in pseudo_by p f (value_of f.number)
+    let f = fields_of (kinds_by (shape_of o)) texts in
+    instruction_by (shape_of o) o f (value_of f.number)
+statement_of (words.Pseudo p) texts =
+    let f = fields_of (pseudo_kinds p) texts in pseudo_by p f (value_of f.number)
 statement_of (words.Directive d) texts = directive_by d texts

@@ -1,10 +1,11 @@
-ghost use Rattle.std.specs.Prelude.{◌≡◌, ◌≤◌, ◌<◌, ◌-◌, ◌^◌, ◌++◌, ◌∷◌, [], true, false, ◌&&◌, min, pos, negsuc, ◌-ℤ◌, ◌≤ℤ◌, IfOk, OnOk, option_map, replicate};
+ghost use Rattle.std.specs.Prelude.{◌≡◌, ◌≤◌, ◌<◌, ◌+◌, ◌-◌, ◌^◌, ◌++◌, ◌∷◌, [], true, false, ◌&&◌, min, pos, negsuc, ◌-ℤ◌, ◌≤ℤ◌, IfOk, OnOk, option_map, replicate};
 ghost use Rattle.std.specs.Option.{ok_or};
 ghost use Rattle.std.specs.List.{flat_map, list_all};
 ghost use Rattle.rv_core.specs.Encoding.{encoded, is_signed_by, is_below};
 ghost use Rattle.rv_asm.specs.declared.AsmCause.TheVariants.{Label};
 ghost use Rattle.rv_asm.specs.Words.{words_list, HasWords, HasAppended};
-ghost use Rattle.rv_asm.specs.Encoding.{farthest, address_behind, base, width_size, fits_width, is_short, padding, count_of, statement_size, residue, low_part, high_part, page_immediate, instr, two_instructions, number_instructions, instructions_of, fits_word, fits_values, is_undefined, word_bytes, number_bytes, data_of, bytes_of};
+ghost use Rattle.rv_asm.specs.Encoding.{base, width_size, fits_width, is_short, padding, count_of, statement_size, residue, low_part, high_part, page_immediate, instr, two_instructions, number_instructions, instructions_of, fits_word, fits_values, is_undefined, word_bytes, number_bytes, data_of, bytes_of};
+ghost use Rattle.rv_asm.specs.Answers.{farthest, nearest_address};
 ghost use Rattle.rv_asm.specs.Labels.{defined};
 
 use crate::AsmCause;
@@ -30,7 +31,7 @@ pub enum Words {
 
 /// The address behind so many bytes, or the greatest.
 pub fn address_behind(at: u64, size: u64) -> u64
-    ensures { result ≡ address_behind at size }
+    ensures { result ≡ nearest_address (at + size) }
 {
     at.saturating_add(size)
 }

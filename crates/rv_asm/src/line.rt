@@ -2,7 +2,7 @@ ghost use Rattle.std.specs.Prelude.{◌≡◌, List, ℕ, IfOk, OnOk};
 ghost use Rattle.std.specs.Option.{option_copied};
 ghost use Rattle.std.specs.List.{list_any};
 ghost use Rattle.std.specs.Str.{is_utf8};
-ghost use Rattle.rv_asm.specs.Answers.{Answers, nearest_said, nearest_line};
+ghost use Rattle.rv_asm.specs.Answers.{Answers, nearest_address, nearest_said, nearest_line};
 ghost use Rattle.rv_asm.specs.Labels.{defined, otherwise, own_definition};
 ghost use Rattle.rv_asm.specs.Words.{HasAppended};
 ghost use Rattle.rv_asm.specs.Line.{uncommented, label_text, statement_text, first_word, operand_texts, shares_quote, has_fault, label_of, statement_in, read, line_end, is_twice, line_bytes};
@@ -169,7 +169,7 @@ pub fn read<'a>(alloc: Global, line: &'a [u8]) -> Result<Line<'a>, AllocError>
 impl<'a> Line<'a> {
     /// The address behind the line, or the greatest.
     pub fn end(&self, at: u64) -> u64
-        ensures { result ≡ line_end at self.now }
+        ensures { result ≡ nearest_address (line_end at self.now) }
     {
         match &self.statement {
             Ok(Some(statement)) => address_behind(at, statement.size(at)),

@@ -1,8 +1,9 @@
-ghost use Rattle.std.specs.Prelude.{◌≡◌, ◌≢◌, List, ℕ, Ok, Err, IfOk, OnOk, MatchResult};
+ghost use Rattle.std.specs.Prelude.{◌≡◌, ◌≢◌, List, ℕ, Ok, Err, IfOk, OnOk, MatchResult, option_map};
 ghost use Rattle.asm_text.specs.Text.{lines};
 ghost use Rattle.rv_asm.specs.declared.AsmError.TheVariants.{Memory};
 ghost use Rattle.rv_asm.specs.Labels.{defined, otherwise, own_definition};
 ghost use Rattle.rv_asm.specs.Encoding.{base};
+ghost use Rattle.rv_asm.specs.Answers.{nearest_address, nearest_definition};
 ghost use Rattle.rv_asm.specs.Words.{HasPlaced};
 ghost use Rattle.rv_asm.specs.Line.{read, line_end, line_bytes};
 ghost use Rattle.rv_asm.specs.Program.{definition_of, outcomes_in, gathered};
@@ -15,7 +16,7 @@ use crate::refusal::LineError;
 use asm_text::first_line;
 use std::alloc::{AllocError, Global};
 
-/// Adds the definition of the line's label, and gives the address behind the line.
+/// Adds the definition of the line's label, and gives the address behind the line, or the greatest.
 fn define_line<'a>(
     alloc: Global,
     line: &'a [u8],
@@ -25,16 +26,17 @@ fn define_line<'a>(
 ) -> Result<u64, AllocError>
     ensures labels { OnOk result ((name : List ℕ) → defined labels.new name
         ≡ otherwise (defined labels.old name) (own_definition number address (read line.now).label name)) }
-    ensures address { IfOk result (λ next. next ≡ line_end address (read line.now)) }
+    ensures address { IfOk result (λ next. next ≡ nearest_address (line_end address (read line.now))) }
 {
     let said = read(alloc, line)?;
     said.define(number, address, labels)?;
     Ok(said.end(address))
 }
 
-/// The first definition of each label of the text.
+/// The first definition of each label of the text, at the nearest address of 64 bits.
 pub fn define_labels<'a>(alloc: Global, text: &'a [u8]) -> Result<Labels<'a>, AllocError>
-    ensures { IfOk result (λ labels. (name : List ℕ) → defined labels name ≡ definition_of text.now name) }
+    ensures { IfOk result (λ labels. (name : List ℕ) → defined labels name
+        ≡ option_map nearest_definition (definition_of text.now name)) }
 {
     let mut labels = Labels::new(alloc);
     let mut address = BASE;
@@ -49,7 +51,8 @@ pub fn define_labels<'a>(alloc: Global, text: &'a [u8]) -> Result<Labels<'a>, Al
     Ok(labels)
 }
 
-/// Appends the bytes of the line and gives the address behind it, or the first cause for which it is refused.
+/// Appends the bytes of the line and gives the address behind it, or the greatest, or else the first cause for
+/// which it is refused.
 fn append_line<'a>(
     alloc: Global,
     line: &'a [u8],
@@ -59,7 +62,7 @@ fn append_line<'a>(
     bytes: &mut Vec<u8>,
 ) -> Result<u64, LineError>
     ensures { HasPlaced (line_bytes (defined labels.now) number address (read line.now))
-        (line_end address (read line.now)) bytes.old.items bytes.new.items result }
+        (nearest_address (line_end address (read line.now))) bytes.old.items bytes.new.items result }
 {
     let said = read(alloc, line)?;
     said.append(labels, number, address, bytes)?;

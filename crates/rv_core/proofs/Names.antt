@@ -1,12 +1,12 @@
 -- A word has the layout of one instruction at most, and the listing finds that one.
-use Rattle.std.proofs.Common.{◌≡◌, ℕ, Bool, true, false, cond, eqb, ◌&&◌, List, [], ◌∷◌, Option, Some, None, refl, sym, ap, ◌∙◌, arith, find, option_map}
+use Rattle.std.proofs.Common.{◌≡◌, ℕ, Bool, true, false, cond, eqb, ◌&&◌, List, [], ◌∷◌, Option, Some, None, refl, sym, subst, ap, ◌∙◌, arith, find, option_map, pos, ◌/◌, ◌%◌, ◌^◌, ◌<◌}
 use Rattle.std.proofs.lemmas.Bool.Decides.{nat_tests}
 use Rattle.rv_core.specs.declared.instr.Op.{Op}
 use Rattle.rv_core.specs.declared.instr.Op.TheVariants as op
 use Rattle.rv_core.specs.declared.instr.Instr.{Instr}
 use Rattle.rv_core.specs.declared.listing.Layout.{Layout}
 use Rattle.rv_core.specs.declared.listing.Layout.TheVariants.{U, J, I, S, B, R, Shift, ShiftW, Ignored, Whole}
-use Rattle.rv_core.specs.Listing.{form, is_layout_at, has_form, bits, listed, decoded, fields_of, op_at, op_of, Decodes}
+use Rattle.rv_core.specs.Listing.{form, is_layout_at, has_form, has_rd, has_rs1, has_rs2, bits, listed, decoded, fields_of, op_at, op_of, Decodes, NamesRegisters}
 
 pub one : (a b : ℕ) → eqb a b ≡ true → a ≡ b
 one a b h = grind (arith, nat_tests)
@@ -96,3 +96,28 @@ pub decoded-is : (w : ℕ) (r : Option Instr) → Decodes w r → decoded w ≡ 
 unfolding decoded op_of
 decoded-is w None h = ap (option_map (fields_of w)) (op_of-none w (op_of w) refl h)
 decoded-is w (Some i) h = ap (option_map (fields_of w)) (op_of-form i.op w h.0) ∙ ap Some (sym h.1)
+
+-- ---- the registers of what a word spells
+register_below : (has : Bool) (n : ℕ) → cond has (n % 32) 0 < 32
+register_below true n = omega arith
+register_below false n = omega arith
+
+NamesRegisters-fields_of : (w : ℕ) (o : Op) → NamesRegisters (fields_of w o)
+NamesRegisters-fields_of w o = record {
+  rd = register_below (has_rd (form o)) (w / 2 ^ 7);
+  rs1 = register_below (has_rs1 (form o)) (w / 2 ^ 15);
+  rs2 = register_below (has_rs2 (form o)) (w / 2 ^ 20);
+}
+
+NamesRegisters-found : (w : ℕ) (r : Option Op) (i : Instr) → option_map (fields_of w) r ≡ Some i → NamesRegisters i
+NamesRegisters-found w None i e = absurd cc
+NamesRegisters-found w (Some o) i e = subst NamesRegisters (some_same (fields_of w o) i e) (NamesRegisters-fields_of w o)
+
+pub NamesRegisters-decoded : (w : ℕ) (i : Instr) → decoded w ≡ Some i → NamesRegisters i
+unfolding decoded
+NamesRegisters-decoded w i e = NamesRegisters-found w (find (λ o. has_form w (form o)) listed) i e
+
+-- 0x13 is the word of `addi x0, x0, 0`.
+pub decoded-nop : decoded 0x13 ≡ Some (record { op = op.Addi; rd = 0; rs1 = 0; rs2 = 0; imm = pos 0 })
+unfolding decoded
+decoded-nop = refl

@@ -1,6 +1,6 @@
 -- The machine: one instruction, and a run of several, on registers, program counter and memory
--- (RISC-V Unprivileged ISA, "Programmers' Model for Base Integer ISA"; the causes of traps are those of the
--- Privileged ISA, "Machine Cause Register").
+-- (RISC-V Unprivileged ISA, "Programmers' Model for Base Integer ISA"; the causes of traps are those
+-- of the Privileged ISA, "Machine Cause Register").
 use Rattle.std.specs.Prelude.{◌≡◌, ℕ, zero, suc, ◌+◌, ◌-◌, ◌*◌, ◌%◌, ◌==◌, Bool, true, false, if◌then◌else◌, Option, Some, None, slice_index, slice_set}
 use Rattle.std.specs.Int.{cast_unsigned, w64}
 use Rattle.rv_core.specs.declared.context.Context.{Context}

@@ -1,17 +1,18 @@
-ghost use Rattle.std.specs.Prelude.{◌≡◌, ◌<◌};
-ghost use Rattle.rv_core.specs.Memory.{Memory, IsSize};
-ghost use Rattle.rv_core.specs.Listing.{NamesRegisters};
+ghost use Rattle.std.specs.Prelude.{◌≡◌, ◌<◌, IfSome};
+ghost use Rattle.rv_core.specs.Memory.{Memory, IsSize, fetched};
+ghost use Rattle.rv_core.specs.Listing.{NamesRegisters, decoded};
 ghost use Rattle.rv_core.specs.Rows.{HasSize};
-ghost use Rattle.rv_core.specs.Machine.{register, with_register, at, next, jumps, stores, outcome, executed, instruction, instructions, Gives, Ends};
+ghost use Rattle.rv_core.specs.Machine.{register, with_register, at, next, jumps, stores, outcome, executed, executed_word, instruction, instructions, Gives, Ends};
 
-use crate::cells::Cells;
+use crate::cells::{Cells, CodeCells};
 use crate::context::{Context, Ended, Trap};
 use crate::decoder::decode;
 use crate::instr::Instr;
+use crate::memo::Memo;
 use crate::rows::{Effect, effect_of, extend};
 
 /// What register `n` holds.
-#[inline]
+#[inline(always)]
 fn read(cx: &Context, n: u8) -> u64
     requires { n < 32 }
     ensures { result ≡ register cx.now n }
@@ -20,7 +21,7 @@ fn read(cx: &Context, n: u8) -> u64
 }
 
 /// Writes `value` to register `n`; a write to register 0 is lost.
-#[inline]
+#[inline(always)]
 fn write(cx: &mut Context, n: u8, value: u64)
     requires { n < 32 }
     ensures { cx.new ≡ with_register cx.old n value }
@@ -31,7 +32,7 @@ fn write(cx: &mut Context, n: u8, value: u64)
 }
 
 /// Gives `value` to register `rd`, and goes on to the next instruction.
-#[inline]
+#[inline(always)]
 fn set(cx: &mut Context, rd: u8, value: u64)
     requires { rd < 32 }
     ensures { cx.new ≡ at (with_register cx.old rd value) (next cx.old) }
@@ -41,7 +42,7 @@ fn set(cx: &mut Context, rd: u8, value: u64)
 }
 
 /// Jumps to `to`, with the address of the next instruction in register `rd`.
-#[inline]
+#[inline(always)]
 fn jump(cx: &mut Context, rd: u8, to: u64) -> Option<Trap>
     requires { rd < 32 }
     ensures { (m : Memory) → Gives (jumps cx.old m rd to) cx.old m result cx.new m }
@@ -58,7 +59,7 @@ fn jump(cx: &mut Context, rd: u8, to: u64) -> Option<Trap>
 }
 
 /// Loads the `size` bytes at `from` into register `rd`, as a signed number if `sign` is set.
-#[inline]
+#[inline(always)]
 fn load<C: Cells>(
     cx: &mut Context,
     cells: &C,
@@ -85,7 +86,7 @@ fn load<C: Cells>(
 }
 
 /// Stores the low `size` bytes of `value` at `to`.
-#[inline]
+#[inline(always)]
 fn store<C: Cells>(cx: &mut Context, cells: &mut C, to: u64, size: u8, value: u64) -> Option<Trap>
     requires { IsSize size }
     ensures { Gives (stores cx.old (C.memory cells.old) to size value)
@@ -102,7 +103,7 @@ fn store<C: Cells>(cx: &mut Context, cells: &mut C, to: u64, size: u8, value: u6
 }
 
 /// Does what an instruction with the destination `rd` does.
-#[inline]
+#[inline(always)]
 fn apply<C: Cells>(cx: &mut Context, cells: &mut C, rd: u8, effect: Effect) -> Option<Trap>
     requires rd { rd < 32 }
     requires size { HasSize effect }
@@ -127,7 +128,7 @@ fn apply<C: Cells>(cx: &mut Context, cells: &mut C, rd: u8, effect: Effect) -> O
 }
 
 /// Does one instruction.
-#[inline]
+#[inline(always)]
 fn execute<C: Cells>(cx: &mut Context, cells: &mut C, instr: &Instr) -> Option<Trap>
     requires { NamesRegisters instr.now }
     ensures { Gives (executed cx.old (C.memory cells.old) instr.now)
@@ -137,6 +138,28 @@ fn execute<C: Cells>(cx: &mut Context, cells: &mut C, instr: &Instr) -> Option<T
     let b = read(cx, instr.rs2);
     let effect = effect_of(instr.op, cx.pc, instr.imm.cast_unsigned(), a, b);
     apply(cx, cells, instr.rd, effect)
+}
+
+/// Does the instruction that a fetched word spells.
+#[inline(always)]
+fn perform<C: Cells>(
+    cx: &mut Context,
+    cells: &mut C,
+    word: u32,
+    instr: Option<Instr>,
+) -> Option<Trap>
+    requires decoded { instr ≡ decoded word }
+    requires registers { IfSome instr NamesRegisters }
+    ensures { Gives (executed_word cx.old (C.memory cells.old) word (decoded word))
+        cx.old (C.memory cells.old) result cx.new (C.memory cells.new) }
+{
+    match instr {
+        Some(instr) => execute(cx, cells, &instr),
+        None => Some(Trap {
+            cause: 2,
+            value: u64::from(word),
+        }),
+    }
 }
 
 /// Does the instruction at the program counter. A trap leaves registers, program counter and memory as they
@@ -159,13 +182,7 @@ pub fn step<C: Cells>(cx: &mut Context, cells: &mut C) -> Option<Trap>
             value: cx.pc,
         });
     };
-    match decode(word) {
-        Some(instr) => execute(cx, cells, &instr),
-        None => Some(Trap {
-            cause: 2,
-            value: u64::from(word),
-        }),
-    }
+    perform(cx, cells, word, decode(word))
 }
 
 /// Does steps until one traps or `n` are done.
@@ -176,6 +193,55 @@ pub fn slice<C: Cells>(cx: &mut Context, cells: &mut C, n: u32) -> Ended
 {
     for _done in 0..n {
         if let Some(trap) = step(cx, cells) {
+            return Ended::Trapped(trap);
+        }
+    }
+    Ended::Ran
+}
+
+/// Fetches the word at an address, from the code that is held if it is there.
+#[inline(always)]
+fn fetch<C: CodeCells>(cells: &mut C, at: u64) -> Option<u32>
+    ensures word { result ≡ fetched (C.memory cells.old) at }
+    ensures same { C.memory cells.new ≡ C.memory cells.old }
+{
+    match cells.fetch_held(at) {
+        Some(word) => Some(word),
+        None => cells.fetch_anew(at),
+    }
+}
+
+/// Does the instruction at the program counter, as `step` does.
+#[inline(always)]
+fn step_with<C: CodeCells>(cx: &mut Context, cells: &mut C, memo: &mut Memo) -> Option<Trap>
+    ensures { Gives (instruction cx.old (C.memory cells.old))
+        cx.old (C.memory cells.old) result cx.new (C.memory cells.new) }
+{
+    let pc = cx.pc;
+    if pc % 4 != 0 {
+        return Some(Trap {
+            cause: 0,
+            value: pc,
+        });
+    }
+    let Some(word) = fetch(cells, pc) else {
+        return Some(Trap {
+            cause: 1,
+            value: pc,
+        });
+    };
+    perform(cx, cells, word, memo.decode(pc, word))
+}
+
+/// Does steps until one traps or `n` are done, as `slice` does: with code that is held, and words that are decoded
+/// once.
+#[inline]
+#[tactic(auto, unfolding(crate::specs::Machine::instructions))]
+pub fn slice_with<C: CodeCells>(cx: &mut Context, cells: &mut C, memo: &mut Memo, n: u32) -> Ended
+    ensures { Ends (instructions n cx.old (C.memory cells.old)) result cx.new (C.memory cells.new) }
+{
+    for _step in 0..n {
+        if let Some(trap) = step_with(cx, cells, memo) {
             return Ended::Trapped(trap);
         }
     }

@@ -9,15 +9,15 @@ mod fields;
 mod hart;
 mod instr;
 mod listing;
+mod memo;
 mod opcodes;
 mod rows;
-#[cfg(test)]
-mod tests;
 
-pub use cells::Cells;
+pub use cells::{Cells, CodeCells};
 pub use context::{Context, Ended, Trap};
 pub use decoder::decode;
 pub use encoder::encode;
-pub use hart::{slice, step};
+pub use hart::{slice, slice_with, step};
 pub use instr::{Instr, OPS, Op};
 pub use listing::Layout;
+pub use memo::Memo;

@@ -25,7 +25,7 @@ pub(crate) enum Effect {
 }
 
 /// The low 32 bits.
-#[inline]
+#[inline(always)]
 fn low(value: u64) -> u32
     ensures { result ≡ value % 2 ^ 32 }
 {
@@ -33,7 +33,7 @@ fn low(value: u64) -> u32
 }
 
 /// The low `size` bytes as a signed number, extended to 64 bits.
-#[inline]
+#[inline(always)]
 pub(crate) fn extend(value: u64, size: u8) -> u64
     requires { IsSize size }
     ensures { result ≡ sign_extended (8 * size) value }
@@ -47,7 +47,7 @@ pub(crate) fn extend(value: u64, size: u8) -> u64
 }
 
 /// The low 32 bits as a signed number, shifted to the right by `count` and extended to 64 bits.
-#[inline]
+#[inline(always)]
 fn shift_right_32(value: u64, count: u64) -> u64
     requires { count < 32 }
     ensures { result ≡ shift_right_32 value count }
@@ -57,7 +57,7 @@ fn shift_right_32(value: u64, count: u64) -> u64
 
 /// What an instruction at `pc` does: `i` is its immediate modulo 2^64, `a` and `b` are what its first and
 /// second source registers hold.
-#[inline]
+#[inline(always)]
 pub(crate) fn effect_of(op: Op, pc: u64, i: u64, a: u64, b: u64) -> Effect
     ensures row { result ≡ row op pc i a b }
     ensures size { HasSize result }

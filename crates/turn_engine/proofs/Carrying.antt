@@ -4,7 +4,7 @@ use Rattle.std.specs.declared.option.Option.TheVariants.{Some}
 use Rattle.bas_edge.specs.Files.{Files}
 use Rattle.abi_calls.specs.declared.call.Call.{Call}
 use Rattle.abi_calls.specs.declared.reply.Reply.{Reply}
-use Rattle.abi_calls.specs.World.{Told, Tells, world_of}
+use Rattle.abi_calls.specs.World.{Told, Tells}
 use Rattle.abi_calls.specs.Abi.{Answers}
 use Rattle.abi_calls.specs.Sound.{IsSound}
 use Rattle.mono_model.specs.Readable.{Readable}
@@ -20,6 +20,7 @@ use Rattle.libos_state.specs.declared.step.Change.TheVariants.{Same, Begins}
 use Rattle.libos_state.specs.declared.cont.Cont.{Cont}
 use Rattle.std.specs.declared.option.Option.{Option}
 use Rattle.std.specs.declared.option.Option.TheVariants.{None}
+use Rattle.libos_state.specs.Records.{over_host}
 use Rattle.libos_state.specs.Pending.{pending, asked_by}
 use Rattle.libos_state.specs.Answered.{answered, answered_in, with_step, with_change, change, next}
 use Rattle.libos_state.specs.Fits.{Fits}
@@ -104,8 +105,8 @@ pending-start os call asks start = start (in_progress os.cont os call asks)
 
 module _ (a b : Moment) (call : Call) (r : Reply) (keeps : KeepsMeaning a.os r b.os) (asks : pending a.os ≡ Some call)
     (fits : Fits a.os a.objects) (sound : IsSound a.objects) (row : Answers a.objects a.told call r b.objects b.told) where
-  goes_on : GoesOn a.os (world_of a.objects row.before) b.os (world_of b.objects row.after)
-  goes_on = keeps.kept (world_of a.objects row.before) (world_of b.objects row.after) call asks fits sound row.abi
+  goes_on : GoesOn a.os (over_host a.objects row.before) b.os (over_host b.objects row.after)
+  goes_on = keeps.kept (over_host a.objects row.before) (over_host b.objects row.after) call asks fits sound (record { rules = refl; below = row.abi })
 
   pub Carries-answered : WhereReadable a.told b.told (Carries a b)
   Carries-answered = record {

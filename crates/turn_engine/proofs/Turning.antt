@@ -7,7 +7,8 @@ use Rattle.abi_calls.specs.declared.threads.Turned.{Turned}
 use Rattle.abi_calls.specs.declared.threads.Turned.TheVariants.{Ran, Idle, Stuck, Exception}
 use Rattle.abi_calls.specs.declared.threads.Upcall.{Upcall}
 use Rattle.abi_calls.specs.declared.host.Crossing.{Crossing}
-use Rattle.abi_calls.specs.Objects.{Objects, next_position}
+use Rattle.turn_sched.specs.Clock.{next_position}
+use Rattle.abi_calls.specs.Objects.{Objects}
 use Rattle.abi_calls.specs.World.{Told}
 use Rattle.abi_calls.specs.Sound.{IsSound}
 use Rattle.abi_calls.specs.Turn.{world_turn}

@@ -27,8 +27,8 @@ pub data Event : Type 0 where
 abbrev pub crossing : Moment → Call → Reply → Crossing
 crossing a call reply = record { turns = a.objects.positions.turns; call = call; reply = reply }
 
--- The call was the pending one, the host answered it by its row, keeps and counts it, and the library
--- OS goes on with the reply.
+-- The call was the pending one, the host answered it by its row, keeps and counts it, and the
+-- library OS goes on with the reply.
 pub record IsNextCall (a : Moment) (call : Call) (reply : Reply) (b : Moment) : Type 0 where
   pub asked : pending a.os ≡ Some call
   pub row : Answers a.objects a.told call reply b.objects b.told
@@ -79,9 +79,11 @@ pub record Fails (a : Moment) (told' : Told) : Type 0 where
   pub asked : pending a.os ≡ Some call
   pub left : Leaves a.objects call a.told told'
 
--- What was done up to where it was given up, with so many turns: nothing else but a last call, if that failed. Where a
--- reply or a trap was not taken for want of memory, the last moment has the library OS that takes it.
-pub record Broken (turns : ℕ) (a : Moment) (told' : Told) (journal' : Option (List Crossing)) (answered' : ℕ) : Type 0 where
+-- What was done up to where it was given up, with so many turns: nothing else but a last call, if
+-- that failed. Where a reply or a trap was not taken for want of memory, the last moment has the
+-- library OS that takes it.
+pub record Broken (turns : ℕ) (a : Moment)
+    (told' : Told) (journal' : Option (List Crossing)) (answered' : ℕ) : Type 0 where
   pub last : Moment
   pub history : History turns a last
   pub left : (told' ≡ last.told) ⊎ Fails last told'

@@ -1,5 +1,5 @@
 -- The library OS over a host, as both stand at one moment.
-use Rattle.std.specs.Prelude.{ℕ, List}
+use Rattle.std.specs.Prelude.{ℕ, List, []}
 use Rattle.std.specs.declared.option.Option.{Option}
 use Rattle.abi_calls.specs.declared.host.Crossing.{Crossing}
 use Rattle.abi_calls.specs.Objects.{Objects}
@@ -21,9 +21,10 @@ abbrev pub moment : LibOs → Objects → Told → Option (List Crossing) → �
 moment os objects told journal answered =
     record { os = os; objects = objects; told = told; journal = journal; answered = answered }
 
--- What programs see at a moment, where the files and the input are these.
+-- What programs see at a moment, where the files and the input are these. No list of rules stands
+-- above a host.
 abbrev pub seen_at : Moment → Readable → Visible
-seen_at a x = record { objects = a.objects; contents = x }
+seen_at a x = record { rules = []; objects = a.objects; contents = x }
 
 -- What the moment stands for, and the machine that its records name.
 abbrev pub meaning_at : Moment → Readable → Meaning

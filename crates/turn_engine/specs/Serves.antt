@@ -2,7 +2,8 @@
 -- written.
 use Rattle.std.specs.Prelude.{◌≡◌, ◌⊎◌, true, false}
 use Rattle.std.specs.declared.option.Option.TheVariants.{None}
-use Rattle.abi_calls.specs.Objects.{Objects, next_position}
+use Rattle.turn_sched.specs.Clock.{next_position}
+use Rattle.abi_calls.specs.Objects.{Objects}
 use Rattle.mono_model.specs.Readable.{Readable}
 use Rattle.mono_model.specs.Written.{Written, and_then}
 use Rattle.mono_model.specs.Turns.{is_stuck, turn_of}

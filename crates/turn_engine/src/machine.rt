@@ -81,13 +81,23 @@ impl Machine {
     ) -> Result<(), EngineError>
         requires asks { libos.pending self.old.os ≡ Some call.now }
         requires fits { Fits self.old.os (H.objects host.old) }
-        ensures serves { OnOk result (Serves (moment self.old.os (H.objects host.old) (H.told host.old) (H.journal host.old) (H.answered_count host.old)) (moment self.new.os (H.objects host.new) (H.told host.new) (H.journal host.new) (H.answered_count host.new))) }
-        ensures quiet { OnOk result (StartsQuietly (moment self.old.os (H.objects host.old) (H.told host.old) (H.journal host.old) (H.answered_count host.old)) (moment self.new.os (H.objects host.new) (H.told host.new) (H.journal host.new) (H.answered_count host.new))) }
+        ensures serves { OnOk result (Serves
+            (moment self.old.os (H.objects host.old) (H.told host.old) (H.journal host.old) (H.answered_count host.old))
+            (moment self.new.os (H.objects host.new) (H.told host.new) (H.journal host.new) (H.answered_count host.new))) }
+        ensures quiet { OnOk result (StartsQuietly
+            (moment self.old.os (H.objects host.old) (H.told host.old) (H.journal host.old) (H.answered_count host.old))
+            (moment self.new.os (H.objects host.new) (H.told host.new) (H.journal host.new) (H.answered_count host.new))) }
         ensures unchanged { OnErr result (ServesNoTrap self.old.os → H.told host.new ≡ H.told host.old) }
-        ensures halts { OnErr result (Halts (moment self.old.os (H.objects host.old) (H.told host.old) (H.journal host.old) (H.answered_count host.old)) (H.told host.new)) }
+        ensures halts { OnErr result (Halts
+            (moment self.old.os (H.objects host.old) (H.told host.old) (H.journal host.old) (H.answered_count host.old))
+            (H.told host.new)) }
         ensures nearer { OnOk result (calls_left self.new.os < calls_left self.old.os) }
-        ensures history { OnOk result (History 0 (moment self.old.os (H.objects host.old) (H.told host.old) (H.journal host.old) (H.answered_count host.old)) (moment self.new.os (H.objects host.new) (H.told host.new) (H.journal host.new) (H.answered_count host.new))) }
-        ensures broken { OnErr result (Broken 0 (moment self.old.os (H.objects host.old) (H.told host.old) (H.journal host.old) (H.answered_count host.old)) (H.told host.new) (H.journal host.new) (H.answered_count host.new)) }
+        ensures history { OnOk result (History 0
+            (moment self.old.os (H.objects host.old) (H.told host.old) (H.journal host.old) (H.answered_count host.old))
+            (moment self.new.os (H.objects host.new) (H.told host.new) (H.journal host.new) (H.answered_count host.new))) }
+        ensures broken { OnErr result (Broken 0
+            (moment self.old.os (H.objects host.old) (H.told host.old) (H.journal host.old) (H.answered_count host.old))
+            (H.told host.new) (H.journal host.new) (H.answered_count host.new)) }
         ensures cause { HasCause EngineError.Failed (H.fault_count host.old) (H.fault_count host.new) result }
     {
         let reply = host.call(call)?;
@@ -98,14 +108,24 @@ impl Machine {
     /// Makes the next call of the service in progress; `false` where none is in progress.
     fn step<H: Host>(&mut self, alloc: Global, host: &mut H) -> Result<bool, EngineError>
         requires fits { Fits self.old.os (H.objects host.old) }
-        ensures serves { OnOk result (Serves (moment self.old.os (H.objects host.old) (H.told host.old) (H.journal host.old) (H.answered_count host.old)) (moment self.new.os (H.objects host.new) (H.told host.new) (H.journal host.new) (H.answered_count host.new))) }
-        ensures quiet { OnOk result (StartsQuietly (moment self.old.os (H.objects host.old) (H.told host.old) (H.journal host.old) (H.answered_count host.old)) (moment self.new.os (H.objects host.new) (H.told host.new) (H.journal host.new) (H.answered_count host.new))) }
+        ensures serves { OnOk result (Serves
+            (moment self.old.os (H.objects host.old) (H.told host.old) (H.journal host.old) (H.answered_count host.old))
+            (moment self.new.os (H.objects host.new) (H.told host.new) (H.journal host.new) (H.answered_count host.new))) }
+        ensures quiet { OnOk result (StartsQuietly
+            (moment self.old.os (H.objects host.old) (H.told host.old) (H.journal host.old) (H.answered_count host.old))
+            (moment self.new.os (H.objects host.new) (H.told host.new) (H.journal host.new) (H.answered_count host.new))) }
         ensures unchanged { OnErr result (ServesNoTrap self.old.os → H.told host.new ≡ H.told host.old) }
-        ensures halts { OnErr result (Halts (moment self.old.os (H.objects host.old) (H.told host.old) (H.journal host.old) (H.answered_count host.old)) (H.told host.new)) }
+        ensures halts { OnErr result (Halts
+            (moment self.old.os (H.objects host.old) (H.told host.old) (H.journal host.old) (H.answered_count host.old))
+            (H.told host.new)) }
         ensures nearer { IfOk result (λ more. more ≡ true → calls_left self.new.os < calls_left self.old.os) }
         ensures settled { IfOk result (λ more. more ≡ false → self.new.os.cont ≡ None) }
-        ensures history { OnOk result (History 0 (moment self.old.os (H.objects host.old) (H.told host.old) (H.journal host.old) (H.answered_count host.old)) (moment self.new.os (H.objects host.new) (H.told host.new) (H.journal host.new) (H.answered_count host.new))) }
-        ensures broken { OnErr result (Broken 0 (moment self.old.os (H.objects host.old) (H.told host.old) (H.journal host.old) (H.answered_count host.old)) (H.told host.new) (H.journal host.new) (H.answered_count host.new)) }
+        ensures history { OnOk result (History 0
+            (moment self.old.os (H.objects host.old) (H.told host.old) (H.journal host.old) (H.answered_count host.old))
+            (moment self.new.os (H.objects host.new) (H.told host.new) (H.journal host.new) (H.answered_count host.new))) }
+        ensures broken { OnErr result (Broken 0
+            (moment self.old.os (H.objects host.old) (H.told host.old) (H.journal host.old) (H.answered_count host.old))
+            (H.told host.new) (H.journal host.new) (H.answered_count host.new)) }
         ensures cause { HasCause EngineError.Failed (H.fault_count host.old) (H.fault_count host.new) result }
     {
         let call = pending(&self.os, alloc)?;
@@ -121,13 +141,23 @@ impl Machine {
     /// Serves the service in progress to its end.
     fn serve<H: Host>(&mut self, alloc: Global, host: &mut H) -> Result<(), EngineError>
         requires fits { Fits self.old.os (H.objects host.old) }
-        ensures serves { OnOk result (Serves (moment self.old.os (H.objects host.old) (H.told host.old) (H.journal host.old) (H.answered_count host.old)) (moment self.new.os (H.objects host.new) (H.told host.new) (H.journal host.new) (H.answered_count host.new))) }
-        ensures quiet { OnOk result (StartsQuietly (moment self.old.os (H.objects host.old) (H.told host.old) (H.journal host.old) (H.answered_count host.old)) (moment self.new.os (H.objects host.new) (H.told host.new) (H.journal host.new) (H.answered_count host.new))) }
+        ensures serves { OnOk result (Serves
+            (moment self.old.os (H.objects host.old) (H.told host.old) (H.journal host.old) (H.answered_count host.old))
+            (moment self.new.os (H.objects host.new) (H.told host.new) (H.journal host.new) (H.answered_count host.new))) }
+        ensures quiet { OnOk result (StartsQuietly
+            (moment self.old.os (H.objects host.old) (H.told host.old) (H.journal host.old) (H.answered_count host.old))
+            (moment self.new.os (H.objects host.new) (H.told host.new) (H.journal host.new) (H.answered_count host.new))) }
         ensures unchanged { OnErr result (ServesNoTrap self.old.os → H.told host.new ≡ H.told host.old) }
-        ensures halts { OnErr result (Halts (moment self.old.os (H.objects host.old) (H.told host.old) (H.journal host.old) (H.answered_count host.old)) (H.told host.new)) }
+        ensures halts { OnErr result (Halts
+            (moment self.old.os (H.objects host.old) (H.told host.old) (H.journal host.old) (H.answered_count host.old))
+            (H.told host.new)) }
         ensures settled { OnOk result (self.new.os.cont ≡ None) }
-        ensures history { OnOk result (History 0 (moment self.old.os (H.objects host.old) (H.told host.old) (H.journal host.old) (H.answered_count host.old)) (moment self.new.os (H.objects host.new) (H.told host.new) (H.journal host.new) (H.answered_count host.new))) }
-        ensures broken { OnErr result (Broken 0 (moment self.old.os (H.objects host.old) (H.told host.old) (H.journal host.old) (H.answered_count host.old)) (H.told host.new) (H.journal host.new) (H.answered_count host.new)) }
+        ensures history { OnOk result (History 0
+            (moment self.old.os (H.objects host.old) (H.told host.old) (H.journal host.old) (H.answered_count host.old))
+            (moment self.new.os (H.objects host.new) (H.told host.new) (H.journal host.new) (H.answered_count host.new))) }
+        ensures broken { OnErr result (Broken 0
+            (moment self.old.os (H.objects host.old) (H.told host.old) (H.journal host.old) (H.answered_count host.old))
+            (H.told host.new) (H.journal host.new) (H.answered_count host.new)) }
         ensures cause { HasCause EngineError.Failed (H.fault_count host.old) (H.fault_count host.new) result }
     {
         while self.step(alloc, host)? {}
@@ -141,13 +171,23 @@ impl Machine {
     /// a front of what the service writes.
     pub fn boot<H: Host>(&mut self, alloc: Global, host: &mut H) -> Result<(), EngineError>
         requires fits { Fits self.old.os (H.objects host.old) }
-        ensures serves { OnOk result (Serves (moment self.old.os (H.objects host.old) (H.told host.old) (H.journal host.old) (H.answered_count host.old)) (moment self.new.os (H.objects host.new) (H.told host.new) (H.journal host.new) (H.answered_count host.new))) }
-        ensures quiet { OnOk result (StartsQuietly (moment self.old.os (H.objects host.old) (H.told host.old) (H.journal host.old) (H.answered_count host.old)) (moment self.new.os (H.objects host.new) (H.told host.new) (H.journal host.new) (H.answered_count host.new))) }
+        ensures serves { OnOk result (Serves
+            (moment self.old.os (H.objects host.old) (H.told host.old) (H.journal host.old) (H.answered_count host.old))
+            (moment self.new.os (H.objects host.new) (H.told host.new) (H.journal host.new) (H.answered_count host.new))) }
+        ensures quiet { OnOk result (StartsQuietly
+            (moment self.old.os (H.objects host.old) (H.told host.old) (H.journal host.old) (H.answered_count host.old))
+            (moment self.new.os (H.objects host.new) (H.told host.new) (H.journal host.new) (H.answered_count host.new))) }
         ensures unchanged { OnErr result (ServesNoTrap self.old.os → H.told host.new ≡ H.told host.old) }
-        ensures halts { OnErr result (Halts (moment self.old.os (H.objects host.old) (H.told host.old) (H.journal host.old) (H.answered_count host.old)) (H.told host.new)) }
+        ensures halts { OnErr result (Halts
+            (moment self.old.os (H.objects host.old) (H.told host.old) (H.journal host.old) (H.answered_count host.old))
+            (H.told host.new)) }
         ensures settled { OnOk result (self.new.os.cont ≡ None) }
-        ensures history { OnOk result (History 0 (moment self.old.os (H.objects host.old) (H.told host.old) (H.journal host.old) (H.answered_count host.old)) (moment self.new.os (H.objects host.new) (H.told host.new) (H.journal host.new) (H.answered_count host.new))) }
-        ensures broken { OnErr result (Broken 0 (moment self.old.os (H.objects host.old) (H.told host.old) (H.journal host.old) (H.answered_count host.old)) (H.told host.new) (H.journal host.new) (H.answered_count host.new)) }
+        ensures history { OnOk result (History 0
+            (moment self.old.os (H.objects host.old) (H.told host.old) (H.journal host.old) (H.answered_count host.old))
+            (moment self.new.os (H.objects host.new) (H.told host.new) (H.journal host.new) (H.answered_count host.new))) }
+        ensures broken { OnErr result (Broken 0
+            (moment self.old.os (H.objects host.old) (H.told host.old) (H.journal host.old) (H.answered_count host.old))
+            (H.told host.new) (H.journal host.new) (H.answered_count host.new)) }
         ensures cause { HasCause EngineError.Failed (H.fault_count host.old) (H.fault_count host.new) result }
     {
         self.serve(alloc, host)
@@ -164,10 +204,18 @@ impl Machine {
         requires alive { exit_code self.old.os ≡ None }
         ensures ends { IfOk result (λ end. end ≡ end_of (world_turn (H.objects host.old)).0) }
         ensures serving { OnErr result (end_of (world_turn (H.objects host.old)).0 ≡ TurnEnd.Served) }
-        ensures turn { IfOk result (λ end. TurnsTo end (moment self.old.os (H.objects host.old) (H.told host.old) (H.journal host.old) (H.answered_count host.old)) (moment self.new.os (H.objects host.new) (H.told host.new) (H.journal host.new) (H.answered_count host.new))) }
-        ensures halts { OnErr result (HaltsTurn (moment self.old.os (H.objects host.old) (H.told host.old) (H.journal host.old) (H.answered_count host.old)) (H.told host.new)) }
-        ensures history { IfOk result (λ end. History (turns_of end) (moment self.old.os (H.objects host.old) (H.told host.old) (H.journal host.old) (H.answered_count host.old)) (moment self.new.os (H.objects host.new) (H.told host.new) (H.journal host.new) (H.answered_count host.new))) }
-        ensures broken { OnErr result (Broken 1 (moment self.old.os (H.objects host.old) (H.told host.old) (H.journal host.old) (H.answered_count host.old)) (H.told host.new) (H.journal host.new) (H.answered_count host.new)) }
+        ensures turn { IfOk result (λ end. TurnsTo end
+            (moment self.old.os (H.objects host.old) (H.told host.old) (H.journal host.old) (H.answered_count host.old))
+            (moment self.new.os (H.objects host.new) (H.told host.new) (H.journal host.new) (H.answered_count host.new))) }
+        ensures halts { OnErr result (HaltsTurn
+            (moment self.old.os (H.objects host.old) (H.told host.old) (H.journal host.old) (H.answered_count host.old))
+            (H.told host.new)) }
+        ensures history { IfOk result (λ end. History (turns_of end)
+            (moment self.old.os (H.objects host.old) (H.told host.old) (H.journal host.old) (H.answered_count host.old))
+            (moment self.new.os (H.objects host.new) (H.told host.new) (H.journal host.new) (H.answered_count host.new))) }
+        ensures broken { OnErr result (Broken 1
+            (moment self.old.os (H.objects host.old) (H.told host.old) (H.journal host.old) (H.answered_count host.old))
+            (H.told host.new) (H.journal host.new) (H.answered_count host.new)) }
         ensures cause { HasCause EngineError.Failed (H.fault_count host.old) (H.fault_count host.new) result }
     {
         match host.turn() {

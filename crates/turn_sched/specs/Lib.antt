@@ -1,2 +1,3 @@
+pub mod Clock
 pub mod Lists
 pub mod Schedules

@@ -2,7 +2,8 @@ use Rattle.std.proofs.Common.{◌≡◌, ◌∙◌, [], sym, ap, subst, Ok, Err,
 use Rattle.rv_asm.specs.Labels.{defined}
 use Rattle.rv_asm.specs.File.{file_of}
 use Rattle.rv_asm.specs.Program.{Tells, Follows, IsFileOf, assembled, outcomes, program_of}
-use Rattle.rv_asm.proofs.ProgramLists.{program_of-labels, assembled-filed, follows-file, Tells-error, Follows-error}
+use Rattle.rv_asm.proofs.Addresses.{program_of-labels}
+use Rattle.rv_asm.proofs.ProgramLists.{assembled-filed, follows-file, Tells-error, Follows-error}
 use Rattle.rv_asm.specs.Causes.{HasCause}
 use Rattle.rv_asm.proofs.CauseLists.{HasCause-file, HasCause-error}
 use Rattle.rv_asm.proofs.assemble.Goals as goal

@@ -1,4 +1,4 @@
-use Rattle.asm_laws.proofs.Texts.{definition_of-within}
+use Rattle.rv_asm.proofs.Places.{definition_of-within}
 use Rattle.asm_laws.proofs.laws.labels_lie_within.Goals as goal
 
 pub returns : goal.returns

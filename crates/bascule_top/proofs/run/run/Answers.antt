@@ -1,4 +1,4 @@
-use Rattle.std.proofs.Common.{rules, ◌≡◌, ◌≢◌, ◌∙◌, sym, ◌+◌, ◌<◌, ◌≤◌, arith, refl, subst, Some, None}
+use Rattle.std.proofs.Common.{rules, ◌≡◌, ◌≢◌, ◌∙◌, sym, ◌<◌, ◌≤◌, arith, subst, None}
 use Rattle.bascule_top.specs.Commands.{TURNS}
 use Rattle.libos_state.specs.Records.{exit_code}
 use Rattle.turn_engine.specs.declared.machine.TurnEnd.TheVariants as turned

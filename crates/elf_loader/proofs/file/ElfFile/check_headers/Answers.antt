@@ -12,8 +12,8 @@ returns-in-Some c =
     let file = c.args.self.now.bytes.now in
     let i = c.in-Some.i in
     let found = c.in-Some.ensures in
-    let within = c.placed_count-placed.ensures.within in
-    let lone = c.placed_count-placed.ensures.placed in
+    let within = c.placed-placed.ensures.within in
+    let lone = c.placed-placed.ensures.placed in
     header_refusals-first file (Overlap i) (e_phnum file) i (omega (arith, found.0, within))
     (header_refusals-all file i (λ j below. header_refusal-none file j (lone j (omega (arith, below, found.0))) (found.2 j below)))
     (header_refusal-overlap file i (lone i found.0) found.1)
@@ -26,11 +26,11 @@ first_lone file placed (Err error) below before refused is = header_refusals-fir
 pub returns-then-placed-self : goal.returns-then-placed-self
 returns-then-placed-self c =
     let file = c.args.self.now.bytes.now in
-    let placed = c.placed_count-placed.result in
+    let placed = c.placed-placed.result.count in
     let below : placed < e_phnum file = omega (arith, c.if-placed-self.true, c.args.self.now.counted) in
     first_lone file placed c.check_header.result below
-    (header_refusals-all file placed (λ j under. header_refusal-none file j (c.placed_count-placed.ensures.placed j under) (c.in_default.ensures j under)))
-    (c.placed_count-placed.ensures.refused below)
+    (header_refusals-all file placed (λ j under. header_refusal-none file j (c.placed-placed.ensures.placed j under) (c.in_default.ensures j under)))
+    (c.placed-placed.ensures.refused below)
     c.check_header.ensures
 
 pub returns : goal.returns
@@ -38,5 +38,5 @@ returns c =
     let file = c.args.self.now.bytes.now in
     header_refusals-all file (e_phnum file)
     (λ j below.
-    let under : j < c.placed_count-placed.result = omega (arith, below, c.if-placed-self.false, c.args.self.now.counted) in
-    header_refusal-none file j (c.placed_count-placed.ensures.placed j under) (c.in_default.ensures j under))
+    let under : j < c.placed-placed.result.count = omega (arith, below, c.if-placed-self.false, c.args.self.now.counted) in
+    header_refusal-none file j (c.placed-placed.ensures.placed j under) (c.in_default.ensures j under))

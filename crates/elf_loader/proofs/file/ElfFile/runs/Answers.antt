@@ -2,24 +2,24 @@ use Rattle.std.proofs.Common.{◌≡◌, ◌-◌, ◌*◌, ◌<◌, ◌≤◌, �
 use Rattle.std.proofs.lemmas.Bool.{cases_lt}
 use Rattle.std.proofs.lemmas.List.{get_or_default, take_all, map_more}
 use Rattle.guest_space.specs.declared.Extent.{Extent}
-use Rattle.elf_loader.specs.declared.overlap.Span.{Span}
+use Rattle.elf_loader.specs.declared.overlap.Segment.{Segment}
 use Rattle.elf_loader.specs.Fields.{e_phnum}
 use Rattle.elf_loader.specs.Image.{run_of}
-use Rattle.elf_loader.specs.Steps.{HasSpans, HasSpansAbove}
-use Rattle.elf_loader.proofs.SpanBytes.{HasSpansAbove-drop}
+use Rattle.elf_loader.specs.Steps.{HasSegments, HasSegmentsAbove}
+use Rattle.elf_loader.proofs.SegmentBytes.{HasSegmentsAbove-drop}
 use Rattle.elf_loader.proofs.file.ElfFile.runs.Goals as goal
 
 pub run-requires-clause-there : goal.run-requires-clause-there
 run-requires-clause-there c =
     let file = c.args.self.now.bytes.now in
-    let spans = c.as_slice-spans.result.now in
+    let segments = c.as_slice-segments.result.now in
     let place = c.place_above-place.result in
     let none : Extent = record { page = 0; count = 0; rights = 0 } in
     let start : ℕ = 4096 * (get_or c.args.extents.now c.loop-extent.extent-index none).page in
-    let has : HasSpans file (e_phnum file) spans =
-    subst (λ (n : ℕ). HasSpans file n spans) c.args.self.now.counted (subst (λ (s : List Span). HasSpans file c.args.self.now.count s) (sym c.as_slice-spans.ensures.value) c.in_ok-spans.ensures.there) in
-    subst (HasSpansAbove file start) (sym (take_all (length spans - place) (drop place spans) (omega (arith, length-drop place spans))))
-    (HasSpansAbove-drop file spans start place has
+    let has : HasSegments file (e_phnum file) segments =
+    subst (λ (n : ℕ). HasSegments file n segments) c.args.self.now.counted (subst (λ (s : List Segment). HasSegments file c.args.self.now.count s) (sym c.as_slice-segments.ensures.value) c.in_ok-segments.ensures.there) in
+    subst (HasSegmentsAbove file start) (sym (take_all (length segments - place) (drop place segments) (omega (arith, length-drop place segments))))
+    (HasSegmentsAbove-drop file segments start place has
     (λ k d below.
     ⊎_elim
     (λ (l : k < c.loop-extent.place). c.loop-extent.invariant.below c.loop-extent.extent-index k none d (omega arith) c.loop-extent-test.true l)

@@ -1,9 +1,0 @@
-use Rattle.std.proofs.Common.{◌≡◌, ℕ, ◌+◌, ◌<◌, length, get_or}
-use Rattle.elf_loader.specs.Steps.{IsFilled}
-use Rattle.elf_loader.proofs.file.ElfFile.fill_by_spans.Given as goal
-
-abbrev pub invariant-loop-span : goal.invariant-loop-span
-invariant-loop-span l = record {
-  size : length l.memory ≡ length l.fn.memory;
-  filled : (k : ℕ) → k < length l.fn.memory → IsFilled l.self.bytes.now l.spans l.span-index (l.start + k) (get_or l.memory k 0);
-}

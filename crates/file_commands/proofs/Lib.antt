@@ -1,0 +1,5 @@
+pub mod Telling
+pub mod Rows
+pub mod Writing
+pub mod Reading
+pub mod Fetching

@@ -1,0 +1,3 @@
+pub mod Errors
+pub mod Changes
+pub mod Copies

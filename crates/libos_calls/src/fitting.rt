@@ -1,0 +1,260 @@
+ghost use Rattle.std.specs.Prelude.{◌≡◌, ◌==◌, ◌&&◌, IfOk, Decides, map, is_some};
+ghost use Rattle.std.specs.List.{list_all};
+ghost use Rattle.std.specs.Option.{option_map};
+ghost use Rattle.libos_state.specs.Alone as alone;
+ghost use Rattle.libos_state.specs.Alone.{FitsAlone, fits_alone};
+ghost use Rattle.libos_state.specs.Fits as spec;
+ghost use Rattle.libos_state.specs.Records.{process_named, description_named};
+ghost use Rattle.libos_state.specs.declared.state.LibOs.{LibOs};
+
+use crate::begun::process_by_pid;
+use crate::entered::has_open;
+use crate::kept::{description_by_id, items_from};
+use bas_edge::Memory;
+use libos_state::{Boot, Cont, Description, Event, Kind, LibOs, ProcessNote};
+use std::alloc::{AllocError, Global};
+
+/// The access of a description that is read, and of one that is written.
+const READ: u8 = 1;
+
+const WRITE: u8 = 2;
+
+/// Whether no number stands twice.
+#[tactic(auto, using(crate::proofs::Numbers::are_distinct_drop))]
+fn are_distinct(numbers: &[u64]) -> bool
+    ensures { result ≡ spec.are_distinct numbers.now }
+{
+    for (place, number) in numbers.iter().enumerate() {
+        if items_from(numbers, place + 1).contains(number) {
+            return false;
+        }
+    }
+    true
+}
+
+/// Whether each process, each thread and each description has an id of its own.
+fn are_ids_distinct(alloc: Global, os: &LibOs) -> Result<bool, AllocError>
+    ensures { IfOk result (λ distinct. distinct ≡ (spec.are_distinct (map (λ n. n.pid) os.now.processes)
+        && (spec.are_distinct (map (λ n. n.tid) os.now.threads) && spec.are_distinct (map (λ d. d.id) os.now.descriptions)))) }
+{
+    let pids: Vec<u64> = os
+        .processes
+        .as_slice()
+        .iter()
+        .map(|note| note.pid)
+        .collect(alloc)?;
+    let tids: Vec<u64> = os
+        .threads
+        .as_slice()
+        .iter()
+        .map(|note| note.tid)
+        .collect(alloc)?;
+    let ids: Vec<u64> = os
+        .descriptions
+        .as_slice()
+        .iter()
+        .map(|note| note.id)
+        .collect(alloc)?;
+    Ok(
+        are_distinct(pids.as_slice())
+            && (are_distinct(tids.as_slice()) && are_distinct(ids.as_slice())),
+    )
+}
+
+/// Whether the id was given.
+fn is_given(os: &LibOs, id: u64) -> bool
+    ensures { result ≡ spec.is_given os.now id }
+{
+    1 <= id && id < os.next_id
+}
+
+/// Whether the ids of the processes were given.
+fn are_pids_given(os: &LibOs) -> bool
+    ensures { result ≡ list_all (λ n. spec.is_given os.now n.pid) os.now.processes }
+{
+    os.processes
+        .as_slice()
+        .iter()
+        .all(|note| is_given(os, note.pid))
+}
+
+/// Whether the ids of the threads were given.
+fn are_tids_given(os: &LibOs) -> bool
+    ensures { result ≡ list_all (λ n. spec.is_given os.now n.tid) os.now.threads }
+{
+    os.threads
+        .as_slice()
+        .iter()
+        .all(|note| is_given(os, note.tid))
+}
+
+/// Whether the description of this id is there.
+fn is_there(descriptions: &[Description], id: u64) -> bool
+    ensures { result ≡ is_some (description_named id descriptions.now) }
+{
+    description_by_id(descriptions, id).is_some()
+}
+
+/// Whether the descriptors of a process name open descriptions.
+fn are_described(descriptions: &[Description], note: &ProcessNote) -> bool
+    ensures { result ≡ list_all (λ d. is_some (description_named d.description descriptions.now)) note.now.descriptors }
+{
+    note.descriptors
+        .as_slice()
+        .iter()
+        .all(|named| is_there(descriptions, named.description))
+}
+
+/// Whether the descriptors of a process have different numbers and name open descriptions; one that has exited has none.
+fn is_fit_process(alloc: Global, os: &LibOs, note: &ProcessNote) -> Result<bool, AllocError>
+    ensures { IfOk result (λ fit. fit ≡ spec.is_fit_process os.now note.now) }
+{
+    let numbers: Vec<u64> = note
+        .descriptors
+        .as_slice()
+        .iter()
+        .map(|named| named.number)
+        .collect(alloc)?;
+    let ended = note.code.is_some();
+    Ok(
+        are_distinct(numbers.as_slice())
+            && (are_described(os.descriptions.as_slice(), note)
+                && (!ended || note.descriptors.is_empty())),
+    )
+}
+
+/// Whether the descriptors of each process fit.
+fn are_fit_processes(alloc: Global, os: &LibOs) -> Result<bool, AllocError>
+    ensures { IfOk result (λ fit. fit ≡ list_all (spec.is_fit_process os.now) os.now.processes) }
+{
+    for note in os.processes.as_slice() {
+        if !is_fit_process(alloc, os, note)? {
+            return Ok(false);
+        }
+    }
+    Ok(true)
+}
+
+/// Whether the process of this id has a record, and hasn't exited.
+fn is_alive(processes: &[ProcessNote], pid: u64) -> bool
+    ensures { result ≡ spec.is_alive (process_named pid processes.now) }
+{
+    match process_by_pid(processes, pid) {
+        Some(note) => note.code.is_none(),
+        None => false,
+    }
+}
+
+/// Whether the threads' processes have a record, and haven't exited.
+fn are_threads_alive(os: &LibOs) -> bool
+    ensures { result ≡ list_all (λ n. spec.is_alive (process_named n.pid os.now.processes)) os.now.threads }
+{
+    let processes = os.processes.as_slice();
+    os.threads
+        .as_slice()
+        .iter()
+        .all(|note| is_alive(processes, note.pid))
+}
+
+/// Whether a process has the description open.
+fn is_described(os: &LibOs, id: u64) -> bool
+    ensures { result ≡ spec.is_described os.now id }
+{
+    os.processes
+        .as_slice()
+        .iter()
+        .any(|note| has_open(note, id))
+}
+
+/// Whether each description has a descriptor.
+fn are_all_described(os: &LibOs) -> bool
+    ensures { result ≡ list_all (λ d. spec.is_described os.now d.id) os.now.descriptions }
+{
+    os.descriptions
+        .as_slice()
+        .iter()
+        .all(|note| is_described(os, note.id))
+}
+
+/// Whether console input is open to be read, and its output and errors to be written.
+fn is_fit_access(kind: Kind, access: u8) -> bool
+    ensures { result ≡ spec.is_fit_access kind access }
+{
+    match kind {
+        Kind::ConIn => access == READ,
+        Kind::ConOut | Kind::ConErr => access == WRITE,
+    }
+}
+
+/// Whether each description has the access of its kind.
+fn have_fit_access(descriptions: &[Description]) -> bool
+    ensures { result ≡ list_all (λ d. spec.is_fit_access d.kind d.access) descriptions.now }
+{
+    descriptions
+        .iter()
+        .all(|note| is_fit_access(note.kind, note.access))
+}
+
+/// Whether processes, threads and descriptions are linked: the threads' processes haven't exited, and each description
+/// has a descriptor and the access of its kind.
+fn are_linked(os: &LibOs) -> bool
+    ensures { result ≡ (list_all (λ n. spec.is_alive (process_named n.pid os.now.processes)) os.now.threads
+        && (list_all (λ d. spec.is_described os.now d.id) os.now.descriptions
+        && list_all (λ d. spec.is_fit_access d.kind d.access) os.now.descriptions)) }
+{
+    are_threads_alive(os) && (are_all_described(os) && have_fit_access(os.descriptions.as_slice()))
+}
+
+/// Whether the records fit one another.
+fn are_fit_records(alloc: Global, os: &LibOs) -> Result<bool, AllocError>
+    ensures { IfOk result (λ fit. fit ≡ alone.fits_records os.now) }
+{
+    let distinct = are_ids_distinct(alloc, os)?;
+    let processes = are_fit_processes(alloc, os)?;
+    Ok(distinct && are_pids_given(os) && are_tids_given(os) && processes && are_linked(os))
+}
+
+/// Whether there is no record.
+fn has_no_records(os: &LibOs) -> bool
+    ensures { result ≡ alone.has_no_records os.now }
+{
+    os.processes.is_empty() && (os.threads.is_empty() && os.descriptions.is_empty())
+}
+
+/// Whether the records are those of a run that is so far.
+fn is_so_far(os: &LibOs) -> bool
+    ensures { result ≡ alone.fits_progress os.now os.now.boot }
+{
+    match os.boot {
+        Boot::Up => process_by_pid(os.processes.as_slice(), 1).is_some(),
+        Boot::Going => has_no_records(os) && os.next_id == 1,
+        Boot::NoProgram | Boot::BadProgram(_) => has_no_records(os),
+    }
+}
+
+/// Whether what is served, if anything is, belongs to a run that is so far.
+fn serves_in(boot: Boot, cont: &Option<Cont>) -> bool
+    ensures { result ≡ alone.serves_in boot (option_map (λ c. c.event) cont.now) }
+{
+    match cont {
+        None => boot != Boot::Going,
+        Some(cont) => match cont.event {
+            Event::Boot { .. } => boot == Boot::Going,
+            Event::Up(_) => boot == Boot::Up,
+        },
+    }
+}
+
+/// Whether the library OS fits by itself: each id names one record, descriptors name open descriptions and each
+/// description has one, the threads' processes are alive, and what is served belongs to how far the run is.
+///
+/// # Errors
+/// There was no memory.
+#[tactic(auto, using(libos_state::proofs::Alone::alone_decides))]
+pub fn fits(os: &LibOs, alloc: Global) -> Result<bool, Memory>
+    ensures value { IfOk result (λ fit. fit ≡ fits_alone os.now) }
+    ensures decides { IfOk result (λ fit. Decides fit (FitsAlone os.now)) }
+{
+    let records = are_fit_records(alloc, os)?;
+    Ok(records && (is_so_far(os) && serves_in(os.boot, &os.cont)))
+}
