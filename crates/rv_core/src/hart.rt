@@ -2,50 +2,35 @@ ghost use Rattle.std.specs.Prelude.{◌≡◌, ◌<◌, IfSome};
 ghost use Rattle.rv_core.specs.Memory.{Memory, IsSize, fetched};
 ghost use Rattle.rv_core.specs.Listing.{NamesRegisters, decoded};
 ghost use Rattle.rv_core.specs.Rows.{HasSize};
-ghost use Rattle.rv_core.specs.Machine.{register, with_register, at, next, jumps, stores, outcome, executed, executed_word, instruction, instructions, Gives, Ends};
+ghost use Rattle.rv_core.specs.Machine.{with_register, registers_of, HasZero, at, next, jumps, stores, outcome, executed, executed_word, instruction, instructions, Gives, Ends};
 
 use crate::cells::{Cells, CodeCells};
 use crate::context::{Context, Ended, Trap};
 use crate::decoder::decode;
 use crate::instr::Instr;
 use crate::memo::Memo;
+use crate::register_file::RegisterFile;
 use crate::rows::{Effect, effect_of, extend};
-
-/// What register `n` holds.
-#[inline(always)]
-fn read(cx: &Context, n: u8) -> u64
-    requires { n < 32 }
-    ensures { result ≡ register cx.now n }
-{
-    if n == 0 { 0 } else { cx.x[usize::from(n - 1)] }
-}
-
-/// Writes `value` to register `n`; a write to register 0 is lost.
-#[inline(always)]
-fn write(cx: &mut Context, n: u8, value: u64)
-    requires { n < 32 }
-    ensures { cx.new ≡ with_register cx.old n value }
-{
-    if n > 0 {
-        cx.x[usize::from(n - 1)] = value;
-    }
-}
 
 /// Gives `value` to register `rd`, and goes on to the next instruction.
 #[inline(always)]
-fn set(cx: &mut Context, rd: u8, value: u64)
-    requires { rd < 32 }
-    ensures { cx.new ≡ at (with_register cx.old rd value) (next cx.old) }
+fn set(file: &mut RegisterFile, rd: u8, value: u64)
+    requires rd { rd < 32 }
+    requires zero { HasZero file.old }
+    ensures zero { HasZero file.new }
+    ensures outcome { registers_of file.new ≡ at (with_register (registers_of file.old) rd value) (next (registers_of file.old)) }
 {
-    write(cx, rd, value);
-    cx.pc = cx.pc.wrapping_add(4);
+    file.write(rd, value);
+    file.pc = file.pc.wrapping_add(4);
 }
 
 /// Jumps to `to`, with the address of the next instruction in register `rd`.
 #[inline(always)]
-fn jump(cx: &mut Context, rd: u8, to: u64) -> Option<Trap>
-    requires { rd < 32 }
-    ensures { (m : Memory) → Gives (jumps cx.old m rd to) cx.old m result cx.new m }
+fn jump(file: &mut RegisterFile, rd: u8, to: u64) -> Option<Trap>
+    requires rd { rd < 32 }
+    requires zero { HasZero file.old }
+    ensures zero { HasZero file.new }
+    ensures outcome { (m : Memory) → Gives (jumps (registers_of file.old) m rd to) (registers_of file.old) m result (registers_of file.new) m }
 {
     if to % 4 != 0 {
         return Some(Trap {
@@ -53,15 +38,15 @@ fn jump(cx: &mut Context, rd: u8, to: u64) -> Option<Trap>
             value: to,
         });
     }
-    write(cx, rd, cx.pc.wrapping_add(4));
-    cx.pc = to;
+    file.write(rd, file.pc.wrapping_add(4));
+    file.pc = to;
     None
 }
 
 /// Loads the `size` bytes at `from` into register `rd`, as a signed number if `sign` is set.
 #[inline(always)]
 fn load<C: Cells>(
-    cx: &mut Context,
+    file: &mut RegisterFile,
     cells: &C,
     rd: u8,
     from: u64,
@@ -70,12 +55,14 @@ fn load<C: Cells>(
 ) -> Option<Trap>
     requires rd { rd < 32 }
     requires size { IsSize size }
-    ensures { Gives (outcome cx.old (C.memory cells.now) rd (Effect.Loads from size sign))
-        cx.old (C.memory cells.now) result cx.new (C.memory cells.now) }
+    requires zero { HasZero file.old }
+    ensures zero { HasZero file.new }
+    ensures outcome { Gives (outcome (registers_of file.old) (C.memory cells.now) rd (Effect.Loads from size sign))
+        (registers_of file.old) (C.memory cells.now) result (registers_of file.new) (C.memory cells.now) }
 {
     match cells.load(from, size) {
         Some(value) => {
-            set(cx, rd, if sign { extend(value, size) } else { value });
+            set(file, rd, if sign { extend(value, size) } else { value });
             None
         }
         None => Some(Trap {
@@ -87,10 +74,18 @@ fn load<C: Cells>(
 
 /// Stores the low `size` bytes of `value` at `to`.
 #[inline(always)]
-fn store<C: Cells>(cx: &mut Context, cells: &mut C, to: u64, size: u8, value: u64) -> Option<Trap>
-    requires { IsSize size }
-    ensures { Gives (stores cx.old (C.memory cells.old) to size value)
-        cx.old (C.memory cells.old) result cx.new (C.memory cells.new) }
+fn store<C: Cells>(
+    file: &mut RegisterFile,
+    cells: &mut C,
+    to: u64,
+    size: u8,
+    value: u64,
+) -> Option<Trap>
+    requires size { IsSize size }
+    requires zero { HasZero file.old }
+    ensures zero { HasZero file.new }
+    ensures outcome { Gives (stores (registers_of file.old) (C.memory cells.old) to size value)
+        (registers_of file.old) (C.memory cells.old) result (registers_of file.new) (C.memory cells.new) }
 {
     if !cells.store(to, size, value) {
         return Some(Trap {
@@ -98,68 +93,97 @@ fn store<C: Cells>(cx: &mut Context, cells: &mut C, to: u64, size: u8, value: u6
             value: to,
         });
     }
-    cx.pc = cx.pc.wrapping_add(4);
+    file.pc = file.pc.wrapping_add(4);
     None
 }
 
 /// Does what an instruction with the destination `rd` does.
 #[inline(always)]
-fn apply<C: Cells>(cx: &mut Context, cells: &mut C, rd: u8, effect: Effect) -> Option<Trap>
+fn apply<C: Cells>(file: &mut RegisterFile, cells: &mut C, rd: u8, effect: Effect) -> Option<Trap>
     requires rd { rd < 32 }
     requires size { HasSize effect }
-    ensures { Gives (outcome cx.old (C.memory cells.old) rd effect)
-        cx.old (C.memory cells.old) result cx.new (C.memory cells.new) }
+    requires zero { HasZero file.old }
+    ensures zero { HasZero file.new }
+    ensures outcome { Gives (outcome (registers_of file.old) (C.memory cells.old) rd effect)
+        (registers_of file.old) (C.memory cells.old) result (registers_of file.new) (C.memory cells.new) }
 {
     match effect {
         Effect::Sets(value) => {
-            set(cx, rd, value);
+            set(file, rd, value);
             None
         }
-        Effect::Jumps(to) => jump(cx, rd, to),
-        Effect::Branches(true, to) => jump(cx, 0, to),
+        Effect::Jumps(to) => jump(file, rd, to),
+        Effect::Branches(true, to) => jump(file, 0, to),
         Effect::Branches(false, _) | Effect::Nothing => {
-            cx.pc = cx.pc.wrapping_add(4);
+            file.pc = file.pc.wrapping_add(4);
             None
         }
-        Effect::Loads(from, size, sign) => load(cx, cells, rd, from, size, sign),
-        Effect::Stores(to, size, value) => store(cx, cells, to, size, value),
+        Effect::Loads(from, size, sign) => load(file, cells, rd, from, size, sign),
+        Effect::Stores(to, size, value) => store(file, cells, to, size, value),
         Effect::Traps(cause, value) => Some(Trap { cause, value }),
     }
 }
 
 /// Does one instruction.
 #[inline(always)]
-fn execute<C: Cells>(cx: &mut Context, cells: &mut C, instr: &Instr) -> Option<Trap>
-    requires { NamesRegisters instr.now }
-    ensures { Gives (executed cx.old (C.memory cells.old) instr.now)
-        cx.old (C.memory cells.old) result cx.new (C.memory cells.new) }
+fn execute<C: Cells>(file: &mut RegisterFile, cells: &mut C, instr: &Instr) -> Option<Trap>
+    requires registers { NamesRegisters instr.now }
+    requires zero { HasZero file.old }
+    ensures zero { HasZero file.new }
+    ensures outcome { Gives (executed (registers_of file.old) (C.memory cells.old) instr.now)
+        (registers_of file.old) (C.memory cells.old) result (registers_of file.new) (C.memory cells.new) }
 {
-    let a = read(cx, instr.rs1);
-    let b = read(cx, instr.rs2);
-    let effect = effect_of(instr.op, cx.pc, instr.imm.cast_unsigned(), a, b);
-    apply(cx, cells, instr.rd, effect)
+    let a = file.read(instr.rs1);
+    let b = file.read(instr.rs2);
+    let effect = effect_of(instr.op, file.pc, instr.imm.cast_unsigned(), a, b);
+    apply(file, cells, instr.rd, effect)
 }
 
 /// Does the instruction that a fetched word spells.
 #[inline(always)]
 fn perform<C: Cells>(
-    cx: &mut Context,
+    file: &mut RegisterFile,
     cells: &mut C,
     word: u32,
     instr: Option<Instr>,
 ) -> Option<Trap>
     requires decoded { instr ≡ decoded word }
     requires registers { IfSome instr NamesRegisters }
-    ensures { Gives (executed_word cx.old (C.memory cells.old) word (decoded word))
-        cx.old (C.memory cells.old) result cx.new (C.memory cells.new) }
+    requires zero { HasZero file.old }
+    ensures zero { HasZero file.new }
+    ensures outcome { Gives (executed_word (registers_of file.old) (C.memory cells.old) word (decoded word))
+        (registers_of file.old) (C.memory cells.old) result (registers_of file.new) (C.memory cells.new) }
 {
     match instr {
-        Some(instr) => execute(cx, cells, &instr),
+        Some(instr) => execute(file, cells, &instr),
         None => Some(Trap {
             cause: 2,
             value: u64::from(word),
         }),
     }
+}
+
+/// Does the instruction at the program counter.
+#[inline(always)]
+fn step_in<C: Cells>(file: &mut RegisterFile, cells: &mut C) -> Option<Trap>
+    requires { HasZero file.old }
+    ensures zero { HasZero file.new }
+    ensures outcome { Gives (instruction (registers_of file.old) (C.memory cells.old))
+        (registers_of file.old) (C.memory cells.old) result (registers_of file.new) (C.memory cells.new) }
+{
+    if file.pc % 4 != 0 {
+        return Some(Trap {
+            cause: 0,
+            value: file.pc,
+        });
+    }
+    let Some(word) = cells.fetch(file.pc) else {
+        return Some(Trap {
+            cause: 1,
+            value: file.pc,
+        });
+    };
+    perform(file, cells, word, decode(word))
 }
 
 /// Does the instruction at the program counter. A trap leaves registers, program counter and memory as they
@@ -170,33 +194,37 @@ pub fn step<C: Cells>(cx: &mut Context, cells: &mut C) -> Option<Trap>
     ensures { Gives (instruction cx.old (C.memory cells.old))
         cx.old (C.memory cells.old) result cx.new (C.memory cells.new) }
 {
-    if cx.pc % 4 != 0 {
-        return Some(Trap {
-            cause: 0,
-            value: cx.pc,
-        });
-    }
-    let Some(word) = cells.fetch(cx.pc) else {
-        return Some(Trap {
-            cause: 1,
-            value: cx.pc,
-        });
-    };
-    perform(cx, cells, word, decode(word))
+    let mut file = RegisterFile::new(cx);
+    let trap = step_in(&mut file, cells);
+    *cx = file.context();
+    trap
 }
 
 /// Does steps until one traps or `n` are done.
-#[inline]
+#[inline(always)]
 #[tactic(auto, unfolding(crate::specs::Machine::instructions))]
-pub fn slice<C: Cells>(cx: &mut Context, cells: &mut C, n: u32) -> Ended
-    ensures { Ends (instructions n cx.old (C.memory cells.old)) result cx.new (C.memory cells.new) }
+fn steps<C: Cells>(file: &mut RegisterFile, cells: &mut C, n: u32) -> Ended
+    requires { HasZero file.old }
+    ensures { Ends (instructions n (registers_of file.old) (C.memory cells.old))
+        result (registers_of file.new) (C.memory cells.new) }
 {
     for _done in 0..n {
-        if let Some(trap) = step(cx, cells) {
+        if let Some(trap) = step_in(file, cells) {
             return Ended::Trapped(trap);
         }
     }
     Ended::Ran
+}
+
+/// Does steps until one traps or `n` are done.
+#[inline]
+pub fn slice<C: Cells>(cx: &mut Context, cells: &mut C, n: u32) -> Ended
+    ensures { Ends (instructions n cx.old (C.memory cells.old)) result cx.new (C.memory cells.new) }
+{
+    let mut file = RegisterFile::new(cx);
+    let ended = steps(&mut file, cells, n);
+    *cx = file.context();
+    ended
 }
 
 /// Fetches the word at an address, from the code that is held if it is there.
@@ -211,13 +239,15 @@ fn fetch<C: CodeCells>(cells: &mut C, at: u64) -> Option<u32>
     }
 }
 
-/// Does the instruction at the program counter, as `step` does.
+/// Does the instruction at the program counter, as `step_in` does.
 #[inline(always)]
-fn step_with<C: CodeCells>(cx: &mut Context, cells: &mut C, memo: &mut Memo) -> Option<Trap>
-    ensures { Gives (instruction cx.old (C.memory cells.old))
-        cx.old (C.memory cells.old) result cx.new (C.memory cells.new) }
+fn step_with<C: CodeCells>(file: &mut RegisterFile, cells: &mut C, memo: &mut Memo) -> Option<Trap>
+    requires { HasZero file.old }
+    ensures zero { HasZero file.new }
+    ensures outcome { Gives (instruction (registers_of file.old) (C.memory cells.old))
+        (registers_of file.old) (C.memory cells.old) result (registers_of file.new) (C.memory cells.new) }
 {
-    let pc = cx.pc;
+    let pc = file.pc;
     if pc % 4 != 0 {
         return Some(Trap {
             cause: 0,
@@ -230,20 +260,39 @@ fn step_with<C: CodeCells>(cx: &mut Context, cells: &mut C, memo: &mut Memo) -> 
             value: pc,
         });
     };
-    perform(cx, cells, word, memo.decode(pc, word))
+    perform(file, cells, word, memo.decode(pc, word))
+}
+
+/// Does steps until one traps or `n` are done, as `steps` does: with code that is held, and words that are decoded
+/// once.
+#[inline(always)]
+#[tactic(auto, unfolding(crate::specs::Machine::instructions))]
+fn steps_with<C: CodeCells>(
+    file: &mut RegisterFile,
+    cells: &mut C,
+    memo: &mut Memo,
+    n: u32,
+) -> Ended
+    requires { HasZero file.old }
+    ensures { Ends (instructions n (registers_of file.old) (C.memory cells.old))
+        result (registers_of file.new) (C.memory cells.new) }
+{
+    for _step in 0..n {
+        if let Some(trap) = step_with(file, cells, memo) {
+            return Ended::Trapped(trap);
+        }
+    }
+    Ended::Ran
 }
 
 /// Does steps until one traps or `n` are done, as `slice` does: with code that is held, and words that are decoded
 /// once.
 #[inline]
-#[tactic(auto, unfolding(crate::specs::Machine::instructions))]
 pub fn slice_with<C: CodeCells>(cx: &mut Context, cells: &mut C, memo: &mut Memo, n: u32) -> Ended
     ensures { Ends (instructions n cx.old (C.memory cells.old)) result cx.new (C.memory cells.new) }
 {
-    for _step in 0..n {
-        if let Some(trap) = step_with(cx, cells, memo) {
-            return Ended::Trapped(trap);
-        }
-    }
-    Ended::Ran
+    let mut file = RegisterFile::new(cx);
+    let ended = steps_with(&mut file, cells, memo, n);
+    *cx = file.context();
+    ended
 }

@@ -11,6 +11,7 @@ mod instr;
 mod listing;
 mod memo;
 mod opcodes;
+mod register_file;
 mod rows;
 
 pub use cells::{Cells, CodeCells};

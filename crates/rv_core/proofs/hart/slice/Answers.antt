@@ -1,7 +1,0 @@
-use Rattle.std.proofs.Common.{◌∙◌, arith}
-use Rattle.rv_core.proofs.Runs.{instructions-goes}
-use Rattle.rv_core.proofs.hart.slice.Goals as goal
-
-pub loop-done-preserved : goal.loop-done-preserved
-loop-done-preserved g c =
-    instructions-goes c.args.n c.loop-done._done _ _ _ _ (omega arith) c.in_default.ensures ∙ c.loop-done.invariant

@@ -1,0 +1,10 @@
+-- What is left to do leads to where the whole run leads.
+use Rattle.std.proofs.Common.{◌≡◌, ◌-◌}
+use Rattle.rv_core.specs.Machine.{instructions, registers_of, HasZero}
+use Rattle.rv_core.proofs.hart.steps_with.Given as goal
+
+abbrev pub invariant-loop-step : goal.invariant-loop-step
+invariant-loop-step g l = record {
+  zero : HasZero l.file;
+  left : instructions (l.n - l._step) (registers_of l.file) (g.C.Cells.memory l.cells) ≡ instructions l.fn.n (registers_of l.fn.file) (g.C.Cells.memory l.fn.cells);
+}
