@@ -1,15 +1,15 @@
-ghost use Rattle.std.specs.Prelude.{◌≡◌, ℕ, ◌+◌, ◌^◌, ◌<◌, ◌≤◌, length, Some, IfSome, is_some};
-ghost use Rattle.rv_core.specs.Memory.{IsSize, byte_at, fetched, number_at, storable, stored, with_byte_at, written};
+ghost use Rattle.std.specs.Prelude.{◌≡◌, ℕ, ◌+◌, ◌^◌, ◌<◌, ◌≤◌, map, IfSome};
+ghost use Rattle.rv_core.specs.Memory.{IsSize, byte_at, number_at, storable, stored, with_byte_at, written};
 ghost use Rattle.guest_space.specs.Space.{memory_of};
-ghost use Rattle.guest_memory.specs.Pages.{AreInOrder, space_of};
+ghost use Rattle.guest_memory.specs.Pages.{AreInOrder, label_of, space_of};
 ghost use Rattle.guest_memory.specs.PageBytes.{bytes_number, with_number};
 
-use crate::page::{PAGE_SIZE, Page, RUN, WRITE};
-use crate::place::{Hints, find, is_at};
+use crate::page::{PAGE_SIZE, Page, WRITE};
+use crate::place::{Hints, find};
 
 /// The number of `size` bytes at `at` in a page, little-endian.
 #[inline(always)]
-fn number_in(bytes: &[u8; PAGE_SIZE], at: usize, size: u8) -> u64
+pub fn number_in(bytes: &[u8; PAGE_SIZE], at: usize, size: u8) -> u64
     requires size { IsSize size }
     requires within { at + size ≤ 4096 }
     ensures value { result ≡ bytes_number bytes.now at size }
@@ -113,26 +113,11 @@ pub fn number_with(pages: &[Page], hints: &Hints, at: u64, size: u8, right: u8) 
     }
 }
 
-/// The word of 4 bytes at `at`, if it is in the page at a place, and this page can be run.
-#[inline(always)]
-pub fn word_at(pages: &[Page], place: usize, at: u64) -> Option<u32>
-    requires { AreInOrder pages.now }
-    ensures { IfSome result (λ word. fetched (memory_of (space_of pages.now)) at ≡ Some word) }
-{
-    let offset = (at % PAGE_SIZE as u64) as usize;
-    if offset + 4 <= PAGE_SIZE && is_at(pages, place, at / PAGE_SIZE as u64) {
-        let page = &pages[place];
-        if page.rights & RUN == RUN {
-            return Some(number_in(&page.bytes, offset, 4) as u32);
-        }
-    }
-    None
-}
-
 /// Puts a byte at `at`, where a page is there.
 fn put_byte(pages: &mut [Page], hints: &Hints, at: u64, byte: u8)
     requires { AreInOrder pages.old }
     ensures order { AreInOrder pages.new }
+    ensures labels { map label_of pages.new ≡ map label_of pages.old }
     ensures after { memory_of (space_of pages.new) ≡ with_byte_at (memory_of (space_of pages.old)) at byte }
 {
     if let Some(place) = find(pages, hints, at / PAGE_SIZE as u64) {
@@ -145,6 +130,7 @@ fn put_byte(pages: &mut [Page], hints: &Hints, at: u64, byte: u8)
 fn put_across(pages: &mut [Page], hints: &Hints, mut at: u64, size: u8, mut value: u64)
     requires { AreInOrder pages.old }
     ensures order { AreInOrder pages.new }
+    ensures labels { map label_of pages.new ≡ map label_of pages.old }
     ensures after { memory_of (space_of pages.new) ≡ written (memory_of (space_of pages.old)) at size value }
 {
     for _k in 0..size {
@@ -161,6 +147,7 @@ pub fn put(pages: &mut [Page], hints: &Hints, at: u64, size: u8, value: u64) -> 
     requires order { AreInOrder pages.old }
     requires size { IsSize size }
     ensures order { AreInOrder pages.new }
+    ensures labels { map label_of pages.new ≡ map label_of pages.old }
     ensures done { result ≡ storable (memory_of (space_of pages.old)) at size }
     ensures after { memory_of (space_of pages.new)
         ≡ stored (memory_of (space_of pages.old)) at size value }

@@ -1,4 +1,5 @@
 use Rattle.std.proofs.Common.{arith}
+use Rattle.guest_memory.proofs.Labels.{labels-with_bytes}
 use Rattle.guest_memory.proofs.Writes.{AreInOrder-number, memory_of-stored}
 use Rattle.guest_memory.proofs.word.put.Goals as goal
 
@@ -10,3 +11,6 @@ pub returns-then-page-eq-WRITE-clause-after : goal.returns-then-page-eq-WRITE-cl
 returns-then-page-eq-WRITE-clause-after c =
     memory_of-stored c.args.pages.now c.args.at c.in-Some.place c.args.size c.args.value _ c.put_in.new.bytes c.requires.order c.in-Some.ensures
     (omega arith) (omega arith) c.if-page-eq-WRITE.true c.put_in.ensures
+
+pub returns-then-page-eq-WRITE-clause-labels : goal.returns-then-page-eq-WRITE-clause-labels
+returns-then-page-eq-WRITE-clause-labels c = labels-with_bytes c.args.pages.now c.in-Some.place _ c.put_in.new.bytes
