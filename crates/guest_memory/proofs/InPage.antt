@@ -86,8 +86,17 @@ written-in_page s page k (suc (suc n)) value frame held whole fits below =
     (get-put_here s page page first refl) (length-set frame.bytes k (value % 256) ∙ whole) (omega arith) below
     ∙ ap memory_of (put-put s page first (with_frame_bytes frame (with_number frame.bytes k (suc (suc n)) value)))
 
--- a step of a loop that puts one byte after another
-pub with_number-more : (bytes : List ℕ) (at k n value : ℕ) → k < n → with_number (set bytes (at + k) (value % 256)) (at + (k + 1)) (n - (k + 1)) (value / 256) ≡ with_number bytes (at + k) (n - k) value
-with_number-more bytes at k n value h =
-    ap (λ a. with_number (set bytes (at + k) (value % 256)) a (n - (k + 1)) (value / 256)) (let e : at + (k + 1) ≡ at + k + 1 = omega arith in e)
-    ∙ ap (λ left. with_number bytes (at + k) left value) (let e : suc (n - (k + 1)) ≡ n - k = omega arith in e)
+-- a number is put half by half
+pub with_number-two_two : (bytes : List ℕ) (at value : ℕ) → with_number (with_number bytes at 2 value) (at + 2) 2 (value / 65536) ≡ with_number bytes at 4 value
+with_number-two_two bytes at value =
+    let place : at + 2 ≡ at + 1 + 1 = omega arith in
+    let high : value / 65536 ≡ value / 256 / 256 = omega arith in
+    ap (λ a. with_number (with_number bytes at 2 value) a 2 (value / 65536)) place
+    ∙ ap (with_number (with_number bytes at 2 value) (at + 1 + 1) 2) high
+
+pub with_number-four_four : (bytes : List ℕ) (at value : ℕ) → with_number (with_number bytes at 4 value) (at + 4) 4 (value / 4294967296) ≡ with_number bytes at 8 value
+with_number-four_four bytes at value =
+    let place : at + 4 ≡ at + 1 + 1 + 1 + 1 = omega arith in
+    let high : value / 4294967296 ≡ value / 256 / 256 / 256 / 256 = omega arith in
+    ap (λ a. with_number (with_number bytes at 4 value) a 4 (value / 4294967296)) place
+    ∙ ap (with_number (with_number bytes at 4 value) (at + 1 + 1 + 1 + 1) 4) high

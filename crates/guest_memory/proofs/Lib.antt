@@ -1,6 +1,7 @@
 pub mod Order
 pub mod InPage
 pub mod Writes
+pub mod Labels
 pub mod Numbers
 pub mod Gaps
 pub mod RefusalLaws

@@ -1,9 +1,10 @@
 -- Lists of pages by rising number, and the space that they make.
-use Rattle.std.specs.Prelude.{◌≡◌, ℕ, ◌+◌, ◌^◌, ◌<◌, ◌≤◌, List, [], ◌∷◌, map, length, slice_index_or, Some, None}
+use Rattle.std.specs.Prelude.{◌≡◌, ℕ, ◌+◌, ◌*◌, ◌^◌, ◌<◌, ◌≤◌, bit_and, List, [], ◌∷◌, map, length, slice_index_or, Some, None}
 use Rattle.std.specs.Ordering.{nat_cmp}
 use Rattle.std.specs.FinMap.{from_entries, get}
 use Rattle.guest_space.specs.Space.{Frame, Space, IsFrame, memory_of}
 use Rattle.guest_space.specs.Access.{first_fault}
+use Rattle.guest_memory.specs.declared.held.Held.{Held}
 use Rattle.guest_memory.specs.declared.page.Page.{Page}
 
 abbrev pub frame_of : Page → Frame
@@ -46,6 +47,22 @@ pub record IsFound (pages : List Page) (number place : ℕ) : Type 0 where
 
 abbrev pub IsAbsent : List Page → ℕ → Type 0
 IsAbsent pages number = get (space_of pages) number ≡ None
+
+-- The number and the rights of a page, which no store changes.
+abbrev pub label_of : Page → (ℕ × ℕ)
+label_of p = (p.number, p.rights)
+
+-- The page at a place begins at an address and can be run; from there on, words begin within it at
+-- fewer addresses than `room`.
+pub record IsCode (labels : List (ℕ × ℕ)) (place start room : ℕ) : Type 0 where
+  pub within : place < length labels
+  pub begins : (slice_index_or labels place (0, 0)).0 * 4096 ≡ start
+  pub runs : bit_and (slice_index_or labels place (0, 0)).1 4 ≡ 4
+  pub most : room ≤ 4093
+
+-- The page of code that is held is that of these labels, or none is held.
+abbrev pub Holds : List (ℕ × ℕ) → Held → Type 0
+Holds labels held = 0 < held.room → IsCode labels held.place held.start held.room
 
 -- The n bytes from an address on are there.
 pub record AreThere (s : Space) (at n : ℕ) : Type 0 where

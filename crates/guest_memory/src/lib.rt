@@ -3,6 +3,7 @@
 
 mod access;
 mod error;
+mod held;
 mod page;
 mod pages;
 mod place;

@@ -10,12 +10,13 @@ ghost use Rattle.guest_memory.specs.Refusals.{access_refusal, allocate_refusal, 
 
 use crate::access::{copy_in, copy_out, refused_access};
 use crate::error::PageError;
+use crate::held::Held;
 use crate::page::{ALL_RIGHTS, MOST_PAGES, PAGE_SIZE, Page, READ, RUN, WRITE};
-use crate::place::{Hints, find, make_table, note_places};
+use crate::place::{Hints, find, make_table, note};
 use crate::run::{
     insert_run, is_page_run, missing_page, place_for, protect_run, refused_pages, remove_run,
 };
-use crate::word::{number_with, put, word_at};
+use crate::word::{number_with, put};
 use rv_core::{Cells, CodeCells, Context, Ended, Memo, slice, slice_with};
 use std::alloc::Global;
 use std::marker::Model;
@@ -25,8 +26,8 @@ use std::marker::Model;
 pub struct Pages {
     pages: Vec<Page>,
     hints: Hints,
-    /// Where the page of the code was last found. It may be out of date, so whoever uses it compares the page's number.
-    code: usize,
+    /// The page of the code that was fetched last.
+    held: Held,
 }
 
 impl Model for Pages {
@@ -38,11 +39,13 @@ impl Model for Pages {
 
     ghost coded = { map.code coded_ℕ frame_code };
 
-    ghost use Rattle.guest_memory.specs.Pages.{AreInOrder, space_of};
+    ghost use Rattle.std.specs.Prelude.{map as map_list};
+    ghost use Rattle.guest_memory.specs.Pages.{AreInOrder, Holds, label_of, space_of};
 
     ghost view = { λ memory. space_of memory.pages.items };
 
-    ghost invariant = { λ memory. AreInOrder memory.pages.items };
+    ghost invariant = { λ memory.
+        AreInOrder memory.pages.items × Holds (map_list label_of memory.pages.items) memory.held };
 }
 
 impl Cells for Pages {
@@ -70,13 +73,13 @@ impl Cells for Pages {
 impl CodeCells for Pages {
     #[inline(always)]
     fn fetch_held(&self, at: u64) -> Option<u32> {
-        word_at(&self.pages, self.code, at)
+        self.held.word(&self.pages, at)
     }
 
     #[inline(always)]
     fn fetch_anew(&mut self, at: u64) -> Option<u32> {
         if let Some(place) = find(&self.pages, &self.hints, at / PAGE_SIZE as u64) {
-            self.code = place;
+            self.held = Held::page(&self.pages, place, at);
         }
         self.fetch(at)
     }
@@ -90,7 +93,7 @@ impl Pages {
         Pages {
             pages: Vec::new(alloc),
             hints: None,
-            code: 0,
+            held: Held::nothing(),
         }
     }
 
@@ -144,10 +147,9 @@ impl Pages {
         if make_table(&mut self.hints, *self.pages.allocator()).is_err() {
             return Err(PageError::Memory);
         }
+        self.held = Held::nothing();
         insert_run(&mut self.pages, place, page, count, rights);
-        if let Some(table) = &mut self.hints {
-            note_places(&self.pages, table, place);
-        }
+        note(&self.pages, &mut self.hints, place);
         Ok(())
     }
 
@@ -167,9 +169,8 @@ impl Pages {
             return Err(PageError::Unmapped(missing));
         }
         remove_run(&mut self.pages, page, count);
-        if let Some(table) = &mut self.hints {
-            note_places(&self.pages, table, 0);
-        }
+        note(&self.pages, &mut self.hints, 0);
+        self.held = Held::nothing();
         Ok(())
     }
 
@@ -189,6 +190,7 @@ impl Pages {
         if let Some(missing) = missing_page(&self.pages, &self.hints, page, count) {
             return Err(PageError::Unmapped(missing));
         }
+        self.held = Held::nothing();
         protect_run(&mut self.pages, &self.hints, page, count, rights);
         Ok(())
     }
@@ -231,6 +233,7 @@ impl Pages {
         match refused_access(&self.pages, &self.hints, at, bytes.len(), WRITE) {
             Some(error) => Err(error),
             None => {
+                self.held = Held::nothing();
                 copy_in(&mut self.pages, &self.hints, at, bytes);
                 Ok(())
             }
@@ -275,6 +278,7 @@ impl Pages {
             Some(error) => Err(error),
             None => {
                 if !bytes.is_empty() {
+                    self.held = Held::nothing();
                     copy_in(&mut self.pages, &self.hints, page * PAGE_SIZE as u64, bytes);
                 }
                 Ok(())

@@ -76,11 +76,18 @@ pub fn find(pages: &[Page], hints: &Hints, number: u64) -> Option<usize>
 }
 
 /// Notes where the pages from the place `from` on are: of those that share a slot, the last. The other hints stay.
-pub fn note_places(pages: &[Page], table: &mut [u16; HINTS], from: usize)
+fn note_places(pages: &[Page], table: &mut [u16; HINTS], from: usize)
     ensures noted { AreNoted pages.now table.new from (length pages.now) }
     ensures kept { AreKept pages.now table.old table.new from (length pages.now) }
 {
     for place in from..pages.len() {
         table[slot(pages[place].number)] = (place % 65536) as u16;
+    }
+}
+
+/// Notes where the pages from the place `from` on are, if there is a table.
+pub fn note(pages: &[Page], hints: &mut Hints, from: usize) {
+    if let Some(table) = hints {
+        note_places(pages, table, from);
     }
 }

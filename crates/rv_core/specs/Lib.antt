@@ -3,3 +3,4 @@ pub mod Listing
 pub mod Rows
 pub mod Machine
 pub mod Encoding
+pub mod RegisterFile

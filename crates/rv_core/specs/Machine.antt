@@ -1,14 +1,13 @@
 -- The machine: one instruction, and a run of several, on registers, program counter and memory
 -- (RISC-V Unprivileged ISA, "Programmers' Model for Base Integer ISA"; the causes of traps are those
 -- of the Privileged ISA, "Machine Cause Register").
-use Rattle.std.specs.Prelude.{◌≡◌, ℕ, zero, suc, ◌+◌, ◌-◌, ◌*◌, ◌%◌, ◌==◌, Bool, true, false, if◌then◌else◌, Option, Some, None, drop, slice_index, slice_set}
+use Rattle.std.specs.Prelude.{◌≡◌, ℕ, zero, suc, ◌+◌, ◌-◌, ◌*◌, ◌%◌, ◌==◌, Bool, true, false, if◌then◌else◌, Option, Some, None, slice_index, slice_set}
 use Rattle.std.specs.Int.{cast_unsigned, w64}
 use Rattle.rv_core.specs.declared.context.Context.{Context}
 use Rattle.rv_core.specs.declared.context.Trap.{Trap}
 use Rattle.rv_core.specs.declared.context.Ended.{Ended}
 use Rattle.rv_core.specs.declared.context.Ended.TheVariants.{Ran, Trapped}
 use Rattle.rv_core.specs.declared.instr.Instr.{Instr}
-use Rattle.rv_core.specs.declared.register_file.RegisterFile.{RegisterFile}
 use Rattle.rv_core.specs.declared.rows.Effect.{Effect}
 use Rattle.rv_core.specs.declared.rows.Effect.TheVariants.{Sets, Jumps, Branches, Loads, Stores, Nothing, Traps}
 use Rattle.rv_core.specs.Memory.{Memory, fetched, loaded, storable, stored}
@@ -30,13 +29,6 @@ at cx pc = record cx { pc = pc }
 -- The address of the next instruction.
 abbrev pub next : Context → ℕ
 next cx = word (cx.pc + 4)
-
--- The registers that a file of 32 registers holds. Its first is x0, which holds 0.
-abbrev pub registers_of : RegisterFile → Context
-registers_of file = record { pc = file.pc; x = drop 1 file.x }
-
-abbrev pub HasZero : RegisterFile → Type 0
-HasZero file = slice_index file.x 0 ≡ 0
 
 -- What an instruction leads to: new registers and memory, or a trap with its cause and value.
 pub data Outcome : Type 0 where

@@ -2,7 +2,8 @@ ghost use Rattle.std.specs.Prelude.{◌≡◌, ◌<◌, IfSome};
 ghost use Rattle.rv_core.specs.Memory.{Memory, IsSize, fetched};
 ghost use Rattle.rv_core.specs.Listing.{NamesRegisters, decoded};
 ghost use Rattle.rv_core.specs.Rows.{HasSize};
-ghost use Rattle.rv_core.specs.Machine.{with_register, registers_of, HasZero, at, next, jumps, stores, outcome, executed, executed_word, instruction, instructions, Gives, Ends};
+ghost use Rattle.rv_core.specs.RegisterFile.{HasZero, registers_of};
+ghost use Rattle.rv_core.specs.Machine.{with_register, at, next, jumps, stores, outcome, executed, executed_word, instruction, instructions, Gives, Ends};
 
 use crate::cells::{Cells, CodeCells};
 use crate::context::{Context, Ended, Trap};

@@ -1,5 +1,6 @@
 ghost use Rattle.std.specs.Prelude.{◌≡◌, ◌<◌};
-ghost use Rattle.rv_core.specs.Machine.{register, with_register, HasZero, registers_of};
+ghost use Rattle.rv_core.specs.RegisterFile.{HasZero, registers_of};
+ghost use Rattle.rv_core.specs.Machine.{register, with_register};
 
 use crate::context::Context;
 

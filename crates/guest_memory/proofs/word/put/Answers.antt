@@ -1,12 +1,15 @@
-use Rattle.std.proofs.Common.{arith}
-use Rattle.guest_memory.proofs.Writes.{AreInOrder-number, memory_of-stored}
+use Rattle.std.proofs.Common.{◌≡◌, sym, ap, ◌∙◌, arith}
+use Rattle.rv_core.specs.Memory.{stored}
+use Rattle.guest_space.specs.Space.{memory_of}
+use Rattle.guest_memory.specs.Pages.{space_of}
 use Rattle.guest_memory.proofs.word.put.Goals as goal
 
-pub returns-then-page-eq-WRITE-clause-order : goal.returns-then-page-eq-WRITE-clause-order
-returns-then-page-eq-WRITE-clause-order c =
-    AreInOrder-number c.args.pages.now _ c.in-Some.place _ c.args.size c.args.value _ c.put_in.new.bytes c.requires.order c.in-Some.ensures c.put_in.ensures
+pub returns-in-4-clause-after : goal.returns-in-4-clause-after
+returns-in-4-clause-after c =
+    let size : c.args.size ≡ 4 = omega arith in
+    c.put_number-in-4.ensures.after ∙ ap (λ n. stored (memory_of (space_of c.args.pages.now)) c.args.at n c.args.value) (sym size)
 
-pub returns-then-page-eq-WRITE-clause-after : goal.returns-then-page-eq-WRITE-clause-after
-returns-then-page-eq-WRITE-clause-after c =
-    memory_of-stored c.args.pages.now c.args.at c.in-Some.place c.args.size c.args.value _ c.put_in.new.bytes c.requires.order c.in-Some.ensures
-    (omega arith) (omega arith) c.if-page-eq-WRITE.true c.put_in.ensures
+pub returns-in_default-clause-after : goal.returns-in_default-clause-after
+returns-in_default-clause-after c =
+    let size : c.args.size ≡ 8 = omega (arith, c.requires.size) in
+    c.put_number-in_default.ensures.after ∙ ap (λ n. stored (memory_of (space_of c.args.pages.now)) c.args.at n c.args.value) (sym size)

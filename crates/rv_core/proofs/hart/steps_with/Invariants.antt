@@ -1,6 +1,7 @@
 -- What is left to do leads to where the whole run leads.
 use Rattle.std.proofs.Common.{◌≡◌, ◌-◌}
-use Rattle.rv_core.specs.Machine.{instructions, registers_of, HasZero}
+use Rattle.rv_core.specs.Machine.{instructions}
+use Rattle.rv_core.specs.RegisterFile.{HasZero, registers_of}
 use Rattle.rv_core.proofs.hart.steps_with.Given as goal
 
 abbrev pub invariant-loop-step : goal.invariant-loop-step

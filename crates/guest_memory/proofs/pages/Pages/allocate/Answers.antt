@@ -12,7 +12,7 @@ unheld : (c : In-Ok) → first_held c.args.self.now c.args.page c.args.count ≡
 unheld c = sym (c.in-Ok.ensures.held ∙ ap (λ ps. first_held (space_of ps) c.args.page c.args.count) c.deref.ensures.value ∙ ap (λ s. first_held s c.args.page c.args.count) c.self.view_is)
 
 long : (c : In-Ok) → map.len c.args.self.now ≡ c.self.inside.pages.len
-long c = sym (c.self.inside.pages.ok.0 ∙ sym (len-space_of 0 c.self.inside.pages.items c.self.invariant) ∙ ap map.len c.self.view_is)
+long c = sym (c.self.inside.pages.ok.0 ∙ sym (len-space_of 0 c.self.inside.pages.items c.self.invariant.0) ∙ ap map.len c.self.view_is)
 
 run : (c : In-Ok) → is_run c.args.page c.args.count ≡ true
 run c = sym c.if-not-is_page_run.ensures
