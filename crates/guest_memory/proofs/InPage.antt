@@ -1,5 +1,5 @@
 -- Numbers in one page, read and written, as the memory of a space has them.
-use Rattle.std.proofs.Common.{◌≡◌, ℕ, zero, suc, ◌+◌, ◌-◌, ◌*◌, ◌/◌, ◌%◌, ◌^◌, ◌<◌, ◌≤◌, cond, List, length, get_or, set, refl, sym, ap, ◌∙◌, arith, Some, None, inl, inr}
+use Rattle.std.proofs.Common.{◌≡◌, ℕ, zero, suc, ◌+◌, ◌*◌, ◌/◌, ◌%◌, ◌^◌, ◌<◌, ◌≤◌, cond, List, length, get_or, set, refl, sym, ap, ◌∙◌, arith, Some, None, inl, inr}
 use Rattle.std.proofs.lemmas.Bool.{eq-eqb, cases_eq}
 use Rattle.std.proofs.lemmas.List.{get_or-set_same, get_or-set_other, length-set}
 use Rattle.std.proofs.lemmas.List.Elements.{All-set}
@@ -85,18 +85,3 @@ written-in_page s page k (suc (suc n)) value frame held whole fits below =
     ∙ written-in_page (insert s page first) page (k + 1) (suc n) (value / 256) first
     (get-put_here s page page first refl) (length-set frame.bytes k (value % 256) ∙ whole) (omega arith) below
     ∙ ap memory_of (put-put s page first (with_frame_bytes frame (with_number frame.bytes k (suc (suc n)) value)))
-
--- a number is put half by half
-pub with_number-two_two : (bytes : List ℕ) (at value : ℕ) → with_number (with_number bytes at 2 value) (at + 2) 2 (value / 65536) ≡ with_number bytes at 4 value
-with_number-two_two bytes at value =
-    let place : at + 2 ≡ at + 1 + 1 = omega arith in
-    let high : value / 65536 ≡ value / 256 / 256 = omega arith in
-    ap (λ a. with_number (with_number bytes at 2 value) a 2 (value / 65536)) place
-    ∙ ap (with_number (with_number bytes at 2 value) (at + 1 + 1) 2) high
-
-pub with_number-four_four : (bytes : List ℕ) (at value : ℕ) → with_number (with_number bytes at 4 value) (at + 4) 4 (value / 4294967296) ≡ with_number bytes at 8 value
-with_number-four_four bytes at value =
-    let place : at + 4 ≡ at + 1 + 1 + 1 + 1 = omega arith in
-    let high : value / 4294967296 ≡ value / 256 / 256 / 256 / 256 = omega arith in
-    ap (λ a. with_number (with_number bytes at 4 value) a 4 (value / 4294967296)) place
-    ∙ ap (with_number (with_number bytes at 4 value) (at + 1 + 1 + 1 + 1) 4) high

@@ -1,5 +1,5 @@
 -- The numbers and rights of a list of pages, which a store leaves as they are, and the code that is held by them.
-use Rattle.std.proofs.Common.{◌≡◌, ℕ, zero, suc, ◌+◌, ◌-◌, ◌*◌, ◌/◌, ◌%◌, ◌^◌, ◌<◌, ◌≤◌, List, [], ◌∷◌, map, length, get_or, set, refl, sym, ap, ◌∙◌, subst, arith, Some}
+use Rattle.std.proofs.Common.{◌≡◌, ℕ, zero, suc, ◌+◌, ◌-◌, ◌*◌, ◌%◌, ◌^◌, ◌<◌, List, [], ◌∷◌, map, length, get_or, set, refl, sym, ap, ◌∙◌, subst, arith, Some}
 use Rattle.std.specs.Int.Bits.{bit_and}
 use Rattle.rv_core.specs.Memory.{fetched, number_at}
 use Rattle.guest_space.specs.Space.{memory_of}
@@ -24,19 +24,7 @@ label-at [] i d h = absurd (omega arith)
 label-at (p ∷ ps) zero d h = refl
 label-at (p ∷ ps) (suc i) d h = label-at ps i d (omega arith)
 
--- a page that was found and can be run
-pub IsCode-found : (ps : List Page) (at i : ℕ) (d : Page) → IsFound ps (at / 4096) i → bit_and (get_or ps i d).rights 4 ≡ 4 → IsCode (map label_of ps) i (at - at % 4096) 4093
-IsCode-found ps at i d found runs =
-    let label = label-at ps i d found.within in
-    let number : (get_or (map label_of ps) i (0, 0)).0 ≡ at / 4096 = ap (λ (l : ℕ × ℕ). l.0) label ∙ found.is d in
-    record {
-      within = subst (λ n. i < n) (sym (length-labels ps)) found.within;
-      begins = omega arith;
-      runs = ap (λ (l : ℕ × ℕ). bit_and l.1 4) label ∙ runs;
-      most = omega arith;
-    }
-
--- and its words
+-- the words of the code that is held
 pub fetched-code : (ps : List Page) (at i start room : ℕ) (d : Page) → AreInOrder ps → IsCode (map label_of ps) i start room → at < 2 ^ 64 → (at + (2 ^ 64 - start)) % 2 ^ 64 < room → fetched (memory_of (space_of ps)) at ≡ Some (bytes_number (get_or ps i d).bytes ((at + (2 ^ 64 - start)) % 2 ^ 64) 4)
 fetched-code ps at i start room d order code small near =
     let within : i < length ps = subst (λ n. i < n) (length-labels ps) code.within in

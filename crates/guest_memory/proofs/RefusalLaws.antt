@@ -1,13 +1,13 @@
 -- What each answer about a refusal says.
-use Rattle.std.proofs.Common.{◌≡◌, ℕ, ◌+◌, ◌/◌, ◌%◌, ◌==◌, ◌<◌, ◌≤◌, Bool, true, false, ◌&&◌, cond, nat_lt, nat_le, refl, ap, ◌∙◌, Option, Some, None}
+use Rattle.std.proofs.Common.{◌≡◌, ℕ, ◌+◌, ◌<◌, ◌≤◌, true, cond, nat_lt, nat_le, ap, ◌∙◌, Option, Some, None}
 use Rattle.std.proofs.lemmas.Bool.{and_from, lt-ltb, le-leb, lt-leb}
 use Rattle.std.specs.Option.{option_map, option_or}
 use Rattle.std.specs.FinMap.{len}
 use Rattle.guest_space.specs.Space.{Space}
-use Rattle.guest_space.specs.Run.{is_run, first_held, first_missing}
+use Rattle.guest_space.specs.Run.{is_run, first_held}
 use Rattle.guest_memory.specs.declared.error.PageError.{PageError}
-use Rattle.guest_memory.specs.declared.error.PageError.TheVariants.{Overlap, Unmapped, Denied, Range, Full, Memory as OutOfMemory}
-use Rattle.guest_memory.specs.Refusals.{allocate_refusal, free_refusal, protect_refusal, pages_refusal}
+use Rattle.guest_memory.specs.declared.error.PageError.TheVariants.{Overlap, Range, Full}
+use Rattle.guest_memory.specs.Refusals.{allocate_refusal}
 
 unheld : (s : Space) (page count rights : ℕ) → is_run page count ≡ true → rights < 8 → first_held s page count ≡ None → allocate_refusal s page count rights ≡ cond (nat_le (len s + count) 1024) None (Some Full)
 unheld s page count rights run below none =

@@ -31,7 +31,8 @@ fn jump(file: &mut RegisterFile, rd: u8, to: u64) -> Option<Trap>
     requires rd { rd < 32 }
     requires zero { HasZero file.old }
     ensures zero { HasZero file.new }
-    ensures outcome { (m : Memory) → Gives (jumps (registers_of file.old) m rd to) (registers_of file.old) m result (registers_of file.new) m }
+    ensures outcome { (m : Memory) → Gives (jumps (registers_of file.old) m rd to)
+        (registers_of file.old) m result (registers_of file.new) m }
 {
     if to % 4 != 0 {
         return Some(Trap {
