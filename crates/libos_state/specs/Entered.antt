@@ -1,20 +1,21 @@
 -- How a service begins: with a trap, or with the start of a run.
-use Rattle.std.specs.Prelude.{ℕ, ◌%◌, ◌==◌, Bool, not, ◌&&◌, if◌then◌else◌, List, [], ◌∷◌, ◌++◌, map, filter, bit_and, replicate}
+use Rattle.std.specs.Prelude.{ℕ, ◌%◌, ◌==◌, Bool, false, not, ◌&&◌, if◌then◌else◌, List, [], ◌∷◌, ◌++◌, map, filter, bit_and, replicate}
 use Rattle.std.specs.List.{list_any}
 use Rattle.std.specs.declared.option.Option.{Option}
 use Rattle.std.specs.declared.option.Option.TheVariants.{None, Some}
 use Rattle.turn_sched.specs.declared.settings.Settings.{Settings}
 use Rattle.abi_calls.specs.declared.threads.Upcall.{Upcall}
 use Rattle.mono_model.specs.Machine.{register}
-use Rattle.mono_model.specs.Calls.{WRITE, EXIT, EBADF, ENOSYS, error, fault_code}
+use Rattle.mono_model.specs.Calls.{WRITE, SCHED_YIELD, GETPID, GETPPID, GETTID, EBADF, ENOSYS, error, is_exit, fault_code}
 use Rattle.libos_state.specs.declared.cont.Cont.{Cont}
 use Rattle.libos_state.specs.declared.cont.Event.TheVariants as event
 use Rattle.libos_state.specs.declared.cont.Stage.TheVariants.{SetContext, ReadBuffer, Configure}
 use Rattle.libos_state.specs.declared.notes.Description.{Description}
 use Rattle.libos_state.specs.declared.notes.ProcessNote.{ProcessNote}
+use Rattle.libos_state.specs.declared.notes.ThreadNote.{ThreadNote}
 use Rattle.libos_state.specs.declared.state.Boot.TheVariants.{Going}
 use Rattle.libos_state.specs.declared.state.LibOs.{LibOs}
-use Rattle.libos_state.specs.Records.{description_behind, pid_with}
+use Rattle.libos_state.specs.Records.{process_with, thread_named, thread_with, description_behind, pid_with, tid_of}
 use Rattle.libos_state.specs.Answered.{goes_on, service_with_result, service_closing}
 
 -- What a service on a trap keeps at first.
@@ -26,6 +27,7 @@ entered_with u = record {
   names = [];
   bytes = [];
   handles = [];
+  later = [];
   numbers = [];
 }
 
@@ -55,9 +57,14 @@ handles_of os p =
     map (λ d. d.handle) (filter (λ d. not (is_open_without os p d.id)) os.descriptions)
     ++ map (λ n. n.event) (filter (λ n. n.pid == p) os.threads)
 
--- The record of a process that ends keeps its code alone.
+-- The record of a process that ends gets its code, and has no descriptors.
 abbrev pub note_ended : ℕ → ℕ → ProcessNote → ProcessNote
 note_ended p code n = if n.pid == p then record n { code = Some code; descriptors = [] } else n
+
+-- A thread of process p, by its record.
+abbrev pub is_note_of : ℕ → Option ThreadNote → Bool
+is_note_of p None = false
+is_note_of p (Some n) = n.pid == p
 
 -- The records without those that end with process p.
 abbrev pub without_process : LibOs → ℕ → ℕ → LibOs
@@ -65,6 +72,7 @@ without_process os p code = record os {
   processes = map (note_ended p code) os.processes;
   threads = filter (λ n. not (n.pid == p)) os.threads;
   descriptions = filter (λ d. is_open_without os p d.id) os.descriptions;
+  queue = filter (λ q. not (is_note_of p (thread_named q.tid os.threads))) os.queue;
 }
 
 -- A process ends: its handles are closed one after another.
@@ -74,12 +82,26 @@ ends_process os u code =
     goes_on (without_process os p code)
     (service_closing (record (entered_with u) { numbers = code ∷ [] }) (handles_of os p))
 
+-- The parent that a record holds.
+abbrev pub parent_of : Option ProcessNote → ℕ
+parent_of None = 0
+parent_of (Some n) = n.parent
+
+-- The result of a call that asks who calls, or of none: sched_yield, getpid, getppid, gettid.
+abbrev pub known_result : LibOs → Upcall → ℕ → ℕ
+known_result os u number =
+    if number == SCHED_YIELD then 0
+    else (if number == GETPID then pid_with os u.process
+    else (if number == GETPPID then parent_of (process_with u.process os.processes)
+    else (if number == GETTID then tid_of (thread_with u.thread os.threads)
+    else error ENOSYS)))
+
 abbrev pub call_entered : LibOs → Upcall → ℕ → LibOs
 call_entered os u number =
     if number == WRITE
     then write_entered os u (description_behind os u.process (register u.context 10))
-    else (if number == EXIT then ends_process os u (register u.context 10 % 256)
-    else result_of os u (error ENOSYS))
+    else (if is_exit number then ends_process os u (register u.context 10 % 256)
+    else result_of os u (known_result os u number))
 
 -- The library OS that begins to serve a trap.
 abbrev pub entered : LibOs → Upcall → LibOs
@@ -96,6 +118,7 @@ booting program args settings = record {
   processes = [];
   threads = [];
   descriptions = [];
+  queue = [];
   cont = Some (record {
     event = event.Boot program args;
     stage = Configure;
@@ -103,6 +126,7 @@ booting program args settings = record {
     names = program ∷ program ∷ args;
     bytes = [];
     handles = [];
+    later = [];
     numbers = [];
   });
 }

@@ -17,7 +17,7 @@ use Rattle.abi_calls.proofs.TurnFacts.{world_turn-moves}
 use Rattle.mono_model.specs.Machine.{Mono, register}
 use Rattle.mono_model.specs.Readable.{Readable}
 use Rattle.mono_model.specs.Written.{nothing, and_then}
-use Rattle.mono_model.specs.Calls.{Served, WRITE, EXIT, EBADF, ENOSYS, error, fault_code}
+use Rattle.mono_model.specs.Calls.{Served, WRITE, is_exit, EBADF, error, fault_code}
 use Rattle.mono_model.specs.Turns.{is_stuck, turn_of}
 use Rattle.mono_model.specs.Starting.{Runs}
 use Rattle.libos_state.specs.declared.state.LibOs.{LibOs}
@@ -25,7 +25,7 @@ use Rattle.libos_state.specs.declared.notes.Description.{Description}
 use Rattle.libos_state.specs.declared.state.Boot.{Boot}
 use Rattle.libos_state.specs.declared.state.Boot.TheVariants.{Up}
 use Rattle.libos_state.specs.Records.{description_behind}
-use Rattle.libos_state.specs.Entered.{entered, call_entered, write_entered, ends_process, result_of}
+use Rattle.libos_state.specs.Entered.{entered, call_entered, write_entered, ends_process, result_of, known_result}
 use Rattle.libos_state.specs.Fits.{Fits, FitsUp, FitsBoot, FitsCont}
 use Rattle.libos_state.specs.Laws.{EntersTurn}
 use Rattle.libos_state.specs.Meaning.{Meaning, meant, meant_settled, leads_to}
@@ -126,7 +126,7 @@ entered-boot os u =
     boot_if (u.cause == 8) (call_entered os u (register u.context 17)) (ends_process os u (fault_code u.cause)) os.boot
     (boot_if (register u.context 17 == WRITE) (write_entered os u (description_behind os u.process (register u.context 10))) _ os.boot
     (entered-boot-write os u (description_behind os u.process (register u.context 10)))
-    (boot_if (register u.context 17 == EXIT) (ends_process os u (register u.context 10 % 256)) (result_of os u (error ENOSYS)) os.boot refl refl))
+    (boot_if (is_exit (register u.context 17)) (ends_process os u (register u.context 10 % 256)) (result_of os u (known_result os u (register u.context 17))) os.boot refl refl))
     refl
 
 same_runs : (m n : Mono) → Runs m ≡ Runs n → m ≡ n
