@@ -9,6 +9,7 @@ ghost use Rattle.libos_state.specs.declared.notes.Description.{Description};
 ghost use Rattle.libos_state.specs.declared.state.LibOs.{LibOs};
 
 use crate::kept::{A0, description_of, process_by_handle};
+use crate::mapping::memory_service;
 use crate::replies::{bare, closing, error, finishing};
 use abi_calls::Upcall;
 use bas_edge::Memory;
@@ -21,10 +22,8 @@ const WRITE: u64 = 64;
 
 const EXIT: u64 = 93;
 
-/// Error numbers.
+/// An error number.
 const EBADF: u64 = 9;
-
-const ENOSYS: u64 = 38;
 
 /// The cause of a system call.
 const SYSTEM_CALL: u8 = 8;
@@ -257,7 +256,7 @@ fn enter_call(os: &mut LibOs, alloc: Global, upcall: Upcall) -> Result<(), Memor
         }
         EXIT => end_process(os, alloc, upcall, (registers[A0] % 256) as u8),
         _ => {
-            os.cont = Some(finishing(alloc, Event::Up(upcall), error(ENOSYS)));
+            os.cont = Some(memory_service(alloc, upcall)?);
             Ok(())
         }
     }
