@@ -35,8 +35,8 @@ use Rattle.guest_space.specs.Regions.{merged}
 use Rattle.mono_model.specs.Readable.{Readable}
 use Rattle.mono_model.specs.Written.{nothing}
 use Rattle.mono_model.specs.Machine.{Mono, Process, Thread, Description, process_at, thread_at, with_memory_in, with_process, with_thread, with_registers, exit_code, code_in, exited}
-use Rattle.mono_model.specs.Calls.{Caller, Served, silently, served, finished, ended, description_of, described_in, described_by, writable, write_to, write_unless, memory_in}
-use Rattle.mono_model.specs.Starting.{argument_block, Runs, blank, begun, begun_from, started_if, boot, console_descriptors, console_descriptions}
+use Rattle.mono_model.specs.Calls.{Caller, Served, silently, served, finished, ended, description_of, described_in, described_by, writable, write_to, write_unless, memory_in, with_exited}
+use Rattle.mono_model.specs.Starting.{argument_block, Runs, blank, begun, begun_from, started_if, boot, console_descriptors, console_descriptions, new_process}
 use Rattle.mono_model.specs.Turns.{Ending, Exited, ends_as, behind, with_pick, with_run_of, after_run, run_thread, turn_of, run_of}
 use Rattle.mono_model.proofs.RunLaws.{run_of-exited, run_of-turn}
 use Rattle.bascule_top.specs.Commands.{TURNS, start_settings, start_job}
@@ -146,10 +146,10 @@ run_unwritten n cx cx' s trap is e = ap (λ (r : Reached). ran_from s r) e ∙ a
 -- ---- a turn of the only thread, which traps
 
 abbrev first_process : Space → Process
-first_process s = record { memory = s; code = None; descriptors = console_descriptors }
+first_process s = new_process s 0x11000 console_descriptors
 
 abbrev first_thread : Context → Thread
-first_thread cx = record { process = 1; context = cx; woken = false }
+first_thread cx = record { process = 1; context = cx; woken = false; saved = None }
 
 abbrev caller : Context → Caller
 caller cx = record { thread = 1; process = 1; context = cx }
@@ -191,16 +191,22 @@ turn_trapped m s cx cx' cause value is run =
 output_descriptor : get {R = nat_cmp} console_descriptors 1 ≡ Some 2
 output_descriptor = get-insert-other (insert (insert empty 2 3) 1 2) 0 1 1 (λ e. omega arith) ∙ get-insert-same (insert empty 2 3) 1 2
 
-output_description : get {R = nat_cmp} console_descriptions 2 ≡ Some (record { stream = ConOut; access = 2 })
+abbrev console_output : Description
+console_output = record { stream = ConOut; access = 2; append = false; position = 0 }
+
+abbrev console_errors : Description
+console_errors = record { stream = ConErr; access = 2; append = false; position = 0 }
+
+output_description : get {R = nat_cmp} console_descriptions 2 ≡ Some console_output
 output_description =
-    get-insert-other _ 1 _ 2 (λ e. omega arith) ∙ get-insert-same (insert {R = nat_cmp} empty 3 (record { stream = ConErr; access = 2 })) 2 (record { stream = ConOut; access = 2 })
+    get-insert-other _ 1 _ 2 (λ e. omega arith) ∙ get-insert-same (insert {R = nat_cmp} empty 3 console_errors) 2 console_output
 
 -- write(1, the text, 3)
 write_served : (m : Mono) (s : Space) → process_at m 1 ≡ Some (first_process s) → m.descriptions ≡ console_descriptions → HoldsHello (memory_of s)
     → served m (caller (registers 0x1008c 1 0x1009c 3 64)) (8, 0) ≡ (finished m (caller (registers 0x1008c 1 0x1009c 3 64)) 3, record { output = hello_text; errors = [] })
 write_served m s process descriptions holds =
     let who = caller (registers 0x1008c 1 0x1009c 3 64) in
-    let open_output : description_of m 1 1 ≡ Some (record { stream = ConOut; access = 2 }) =
+    let open_output : description_of m 1 1 ≡ Some console_output =
     ap (λ (p : Option Process). described_in m 1 p) process ∙ ap (λ (d : Option ℕ). described_by m d) output_descriptor ∙ (λ i. get {R = nat_cmp} (descriptions i) 2) ∙ output_description in
     ap (λ (d : Option Description). write_to m who (writable d)) open_output
     ∙ ap (λ (p : Option Process). write_unless m who ConOut (bytes_from (memory_of (memory_in p)) 0x1009c 3) (first_fault (memory_of (memory_in p)) 1 0x1009c 3)) process
@@ -210,7 +216,7 @@ write_served m s process descriptions holds =
 
 module _ (x : Readable) (s : Space) (space : IsSpace s) (holds : HoldsHello (memory_of s)) where
   abbrev begins : Mono
-  begins = begun (blank start_settings (record { turns = 0; pick = 0; random = 0 }) x) s (registers 0x10078 0 0 0 0)
+  begins = begun (blank start_settings (record { turns = 0; pick = 0; random = 0 }) x) s 0x11000 (registers 0x10078 0 0 0 0)
 
   abbrev at_write : Mono
   at_write = at_trap begins s (registers 0x1008c 1 0x1009c 3 64)
@@ -255,7 +261,9 @@ module _ (x : Readable) (s : Space) (space : IsSpace s) (holds : HoldsHello (mem
       (run_unwritten 1000 (registers 0x10090 3 0x1009c 3 64) (registers 0x10098 0 0x1009c 3 93) s (Some (8, 0)) space (up_to_exit (memory_of s) holds))
 
   has_code : exit_code has_exited 1 ≡ Some 0
-  has_code = ap code_in (get-insert-same at_exit.processes 1 (exited 0))
+  has_code =
+      ap (λ (p : Option Process). code_in (get {R = nat_cmp} (with_exited at_exit.processes 1 0 p) 1)) (get-insert-same has_written.processes 1 (first_process s))
+      ∙ ap code_in (get-insert-same at_exit.processes 1 (exited (first_process s) 0))
 
   whole_run : run_of TURNS begins ≡ behind (record { output = hello_text; errors = [] }) (behind nothing (ends_as (Exited 0) has_exited))
   whole_run =

@@ -7,7 +7,7 @@ use Rattle.abi_calls.specs.Objects.{Objects}
 use Rattle.mono_model.specs.Calls.{MMAP, MPROTECT, mmap_known, mprotect_known}
 use Rattle.libos_state.specs.declared.cont.Cont.{Cont}
 use Rattle.libos_state.specs.declared.cont.Stage.{Stage}
-use Rattle.libos_state.specs.declared.cont.Stage.TheVariants.{AllocatePages, ProtectPages, OpenConsole, CreateProcess, AllocateRun, WriteRun, ProtectRun, WriteBlock, CreateThread}
+use Rattle.libos_state.specs.declared.cont.Stage.TheVariants.{AllocatePages, ProtectPages, OpenConsole, CreateProcess, AllocateRun, WriteRun, ProtectRun, WriteBlock, CreateThread, StartThread}
 use Rattle.libos_state.specs.declared.state.LibOs.{LibOs}
 use Rattle.libos_state.specs.Fits.{Fits, FitsStage, FitsCont}
 use Rattle.libos_state.specs.Kept.{KeptAt, IsKept}
@@ -33,6 +33,7 @@ kept_at os o c WriteRun fits = fits.kept
 kept_at os o c ProtectRun fits = fits.kept
 kept_at os o c WriteBlock fits = fits.names
 kept_at os o c CreateThread fits = (fits.kept, fits.names)
+kept_at os o c StartThread fits = fits.kept
 kept_at os o c _ fits = tt
 
 kept_in : (os : LibOs) (o : Objects) (cont : Option Cont) → FitsCont os o cont → IfSome cont (λ c. KeptAt c c.stage)

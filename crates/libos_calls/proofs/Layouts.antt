@@ -19,6 +19,9 @@ module _ (file : List ℕ) (layout : Layout) (is : layout ≡ layout_of file) wh
   pub entry_in_layout : layout.entry ≡ (program_of file).entry
   entry_in_layout = ap (λ (l : Layout). l.entry) same
 
+  pub end_in_layout : layout.end ≡ (program_of file).end
+  end_in_layout = ap (λ (l : Layout). l.end) same
+
   pub length-runs_in_layout : length layout.runs ≡ length (program_of file).runs
   length-runs_in_layout = ap (λ (l : Layout). length l.runs) same ∙ length-map (program_of file).runs extent_of
 

@@ -1,5 +1,6 @@
 pub mod Blocks
 pub mod Pieces
+pub mod Deciding
 pub mod Keeps
 pub mod Layouts
 pub mod Falls

@@ -49,6 +49,7 @@ pub fn boot(
         names,
         bytes: Items::new(alloc),
         handles: Items::new(alloc),
+        later: Items::new(alloc),
         numbers: Items::new(alloc),
     };
     Ok(LibOs {
@@ -58,6 +59,7 @@ pub fn boot(
         processes: Items::new(alloc),
         threads: Items::new(alloc),
         descriptions: Items::new(alloc),
+        queue: Items::new(alloc),
         cont: Some(cont),
     })
 }

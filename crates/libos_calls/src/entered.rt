@@ -8,13 +8,13 @@ ghost use Rattle.libos_state.specs.Laws.{EntersTurn};
 ghost use Rattle.libos_state.specs.declared.notes.Description.{Description};
 ghost use Rattle.libos_state.specs.declared.state.LibOs.{LibOs};
 
-use crate::kept::{A0, description_of, process_by_handle};
+use crate::kept::{A0, description_of, process_by_handle, thread_by_handle, thread_by_tid};
 use crate::mapping::memory_service;
 use crate::replies::{bare, closing, error, finishing};
 use abi_calls::Upcall;
 use bas_edge::Memory;
 use bas_items::Items;
-use libos_state::{Cont, Description, Event, LibOs, ProcessNote, Stage, ThreadNote};
+use libos_state::{Cont, Description, Event, LibOs, ProcessNote, Queued, Stage, ThreadNote};
 use std::alloc::{AllocError, Global};
 
 /// The numbers of the system calls.
@@ -22,8 +22,20 @@ const WRITE: u64 = 64;
 
 const EXIT: u64 = 93;
 
-/// An error number.
+const EXIT_GROUP: u64 = 94;
+
+const SCHED_YIELD: u64 = 124;
+
+const GETPID: u64 = 172;
+
+const GETPPID: u64 = 173;
+
+const GETTID: u64 = 178;
+
+/// Error numbers.
 const EBADF: u64 = 9;
+
+const ENOSYS: u64 = 38;
 
 /// The cause of a system call.
 const SYSTEM_CALL: u8 = 8;
@@ -77,6 +89,39 @@ fn pid_with(os: &LibOs, handle: u64) -> u64
     match process_by_handle(os.processes.as_slice(), handle) {
         Some(note) => note.pid,
         None => 0,
+    }
+}
+
+/// The parent of the process that has a handle; 0 where there is none.
+fn parent_of(os: &LibOs, handle: u64) -> u64
+    ensures { result ≡ spec.parent_of (records.process_with handle os.now.processes) }
+{
+    match process_by_handle(os.processes.as_slice(), handle) {
+        Some(note) => note.parent,
+        None => 0,
+    }
+}
+
+/// The thread that has a handle, by its id; 0 where there is none.
+fn tid_with(os: &LibOs, handle: u64) -> u64
+    ensures { result ≡ records.tid_of (records.thread_with handle os.now.threads) }
+{
+    match thread_by_handle(os.threads.as_slice(), handle) {
+        Some(note) => note.tid,
+        None => 0,
+    }
+}
+
+/// The result of a call that asks who calls, or of none.
+fn known_result(os: &LibOs, upcall: &Upcall, number: u64) -> u64
+    ensures { result ≡ spec.known_result os.now upcall.now number }
+{
+    match number {
+        SCHED_YIELD => 0,
+        GETPID => pid_with(os, upcall.process),
+        GETPPID => parent_of(os, upcall.process),
+        GETTID => tid_with(os, upcall.thread),
+        _ => error(ENOSYS),
     }
 }
 
@@ -186,23 +231,46 @@ fn threads_without(
     Ok(Items::from_vec(left))
 }
 
-/// The record of a process, which keeps its code alone where it is the one that ends.
-fn note_with_end(alloc: Global, note: ProcessNote, pid: u64, code: u8) -> ProcessNote
-    ensures { result ≡ spec.note_ended pid code note }
+/// Whether the thread of this id is of the process.
+fn is_thread_of(threads: &[ThreadNote], pid: u64, tid: u64) -> bool
+    ensures { result ≡ spec.is_note_of pid (records.thread_named tid threads.now) }
 {
-    if note.pid == pid {
-        ProcessNote {
-            pid: note.pid,
-            handle: note.handle,
-            code: Some(code),
-            descriptors: Items::new(alloc),
-        }
-    } else {
-        note
+    match thread_by_tid(threads, tid) {
+        Some(note) => note.pid == pid,
+        None => false,
     }
 }
 
-/// The records of the processes, that of one of which keeps its code alone.
+/// The queue's threads of the other processes.
+fn queue_without(
+    alloc: Global,
+    threads: &[ThreadNote],
+    queue: &[Queued],
+    pid: u64,
+) -> Result<Items<Queued>, AllocError>
+    ensures { IfOk result (λ left.
+        left ≡ filter (λ q. not (spec.is_note_of pid (records.thread_named q.tid threads.now))) queue.now) }
+{
+    let left = queue
+        .iter()
+        .copied()
+        .filter(|queued| !is_thread_of(threads, pid, queued.tid))
+        .collect(alloc)?;
+    Ok(Items::from_vec(left))
+}
+
+/// The record of a process, which gets its code and has no descriptors where it is the one that ends.
+fn note_with_end(alloc: Global, mut note: ProcessNote, pid: u64, code: u8) -> ProcessNote
+    ensures { result ≡ spec.note_ended pid code note }
+{
+    if note.pid == pid {
+        note.code = Some(code);
+        note.descriptors = Items::new(alloc);
+    }
+    note
+}
+
+/// The records of the processes, that of one of which has ended.
 fn notes_with_end(
     alloc: Global,
     notes: Items<ProcessNote>,
@@ -224,10 +292,12 @@ fn forget_process(os: &mut LibOs, alloc: Global, pid: u64, code: u8) -> Result<(
 {
     let threads = threads_without(alloc, os.threads.as_slice(), pid)?;
     let descriptions = descriptions_without(alloc, os, pid)?;
+    let queue = queue_without(alloc, os.threads.as_slice(), os.queue.as_slice(), pid)?;
     let processes = std::mem::replace(&mut os.processes, Items::new(alloc));
     os.processes = notes_with_end(alloc, processes, pid, code)?;
     os.threads = threads;
     os.descriptions = descriptions;
+    os.queue = queue;
     Ok(())
 }
 
@@ -254,9 +324,10 @@ fn enter_call(os: &mut LibOs, alloc: Global, upcall: Upcall) -> Result<(), Memor
             os.cont = Some(write_service(alloc, upcall, description));
             Ok(())
         }
-        EXIT => end_process(os, alloc, upcall, (registers[A0] % 256) as u8),
-        _ => {
-            os.cont = Some(memory_service(alloc, upcall)?);
+        EXIT | EXIT_GROUP => end_process(os, alloc, upcall, (registers[A0] % 256) as u8),
+        number => {
+            let known = known_result(os, &upcall, number);
+            os.cont = Some(memory_service(alloc, upcall, known)?);
             Ok(())
         }
     }

@@ -1,15 +1,15 @@
-ghost use Rattle.std.specs.Prelude.{◌≡◌, ◌==◌, ◌&&◌, IfOk, Decides, map, is_some};
+ghost use Rattle.std.specs.Prelude.{◌≡◌, ◌==◌, ◌&&◌, IfOk, Decides, map, is_some, nat_le};
 ghost use Rattle.std.specs.List.{list_all};
 ghost use Rattle.std.specs.Option.{option_map};
 ghost use Rattle.libos_state.specs.Alone as alone;
 ghost use Rattle.libos_state.specs.Alone.{FitsAlone, fits_alone};
 ghost use Rattle.libos_state.specs.Fits as spec;
-ghost use Rattle.libos_state.specs.Records.{process_named, description_named};
+ghost use Rattle.libos_state.specs.Records.{process_named, thread_named, description_named};
 ghost use Rattle.libos_state.specs.declared.state.LibOs.{LibOs};
 
 use crate::begun::process_by_pid;
 use crate::entered::has_open;
-use crate::kept::{description_by_id, items_from};
+use crate::kept::{description_by_id, items_from, thread_by_tid};
 use bas_edge::Memory;
 use libos_state::{Boot, Cont, Description, Event, Kind, LibOs, ProcessNote};
 use std::alloc::{AllocError, Global};
@@ -18,6 +18,9 @@ use std::alloc::{AllocError, Global};
 const READ: u8 = 1;
 
 const WRITE: u8 = 2;
+
+/// The greatest next id.
+const LAST_ID: u64 = 1 << 31;
 
 /// Whether no number stands twice.
 #[tactic(auto, using(crate::proofs::Numbers::are_distinct_drop))]
@@ -195,6 +198,78 @@ fn have_fit_access(descriptions: &[Description]) -> bool
         .all(|note| is_fit_access(note.kind, note.access))
 }
 
+/// Whether what is written to a description of this kind goes where it can.
+fn is_fit_append(kind: Kind, append: bool) -> bool
+    ensures { result ≡ spec.is_fit_append kind append }
+{
+    match kind {
+        Kind::ConIn | Kind::ConOut | Kind::ConErr => !append,
+    }
+}
+
+/// Whether no description of the console is written at a file's end.
+fn have_fit_append(descriptions: &[Description]) -> bool
+    ensures { result ≡ list_all (λ d. spec.is_fit_append d.kind d.append) descriptions.now }
+{
+    descriptions
+        .iter()
+        .all(|note| is_fit_append(note.kind, note.append))
+}
+
+/// Whether the process has no parent, or one that has a record and came before.
+fn is_fit_parent(os: &LibOs, note: &ProcessNote) -> bool
+    ensures { result ≡ spec.is_fit_parent os.now note.now }
+{
+    note.parent == 0
+        || (note.parent < note.pid
+            && process_by_pid(os.processes.as_slice(), note.parent).is_some())
+}
+
+/// Whether the parents of the processes fit.
+fn have_fit_parents(os: &LibOs) -> bool
+    ensures { result ≡ list_all (spec.is_fit_parent os.now) os.now.processes }
+{
+    os.processes
+        .as_slice()
+        .iter()
+        .all(|note| is_fit_parent(os, note))
+}
+
+/// Whether the threads of the queue have a record.
+fn are_queued_known(os: &LibOs) -> bool
+    ensures { result ≡ list_all (λ q. is_some (thread_named q.tid os.now.threads)) os.now.queue }
+{
+    let threads = os.threads.as_slice();
+    os.queue
+        .as_slice()
+        .iter()
+        .all(|queued| thread_by_tid(threads, queued.tid).is_some())
+}
+
+/// Whether no thread stands in the queue twice.
+fn is_queued_once(alloc: Global, os: &LibOs) -> Result<bool, AllocError>
+    ensures { IfOk result (λ once. once ≡ spec.are_distinct (map (λ q. q.tid) os.now.queue)) }
+{
+    let tids: Vec<u64> = os
+        .queue
+        .as_slice()
+        .iter()
+        .map(|queued| queued.tid)
+        .collect(alloc)?;
+    Ok(are_distinct(tids.as_slice()))
+}
+
+/// Whether parents and the queue fit, and ids are left; `once` says whether no thread stands in the queue twice.
+fn are_further_fit(os: &LibOs, once: bool) -> bool
+    ensures { result ≡ (list_all (λ d. spec.is_fit_append d.kind d.append) os.now.descriptions
+        && (list_all (spec.is_fit_parent os.now) os.now.processes
+        && (list_all (λ q. is_some (thread_named q.tid os.now.threads)) os.now.queue
+        && (once && nat_le os.now.next_id spec.LAST_ID)))) }
+{
+    have_fit_append(os.descriptions.as_slice())
+        && (have_fit_parents(os) && (are_queued_known(os) && (once && os.next_id <= LAST_ID)))
+}
+
 /// Whether processes, threads and descriptions are linked: the threads' processes haven't exited, and each description
 /// has a descriptor and the access of its kind.
 fn are_linked(os: &LibOs) -> bool
@@ -211,14 +286,17 @@ fn are_fit_records(alloc: Global, os: &LibOs) -> Result<bool, AllocError>
 {
     let distinct = are_ids_distinct(alloc, os)?;
     let processes = are_fit_processes(alloc, os)?;
-    Ok(distinct && are_pids_given(os) && are_tids_given(os) && processes && are_linked(os))
+    let once = is_queued_once(alloc, os)?;
+    let linked = are_linked(os) && are_further_fit(os, once);
+    Ok(distinct && are_pids_given(os) && are_tids_given(os) && processes && linked)
 }
 
-/// Whether there is no record.
+/// Whether there is no record, and no id was given.
 fn has_no_records(os: &LibOs) -> bool
     ensures { result ≡ alone.has_no_records os.now }
 {
-    os.processes.is_empty() && (os.threads.is_empty() && os.descriptions.is_empty())
+    let forgotten = os.descriptions.is_empty() && (os.queue.is_empty() && os.next_id == 1);
+    os.processes.is_empty() && (os.threads.is_empty() && forgotten)
 }
 
 /// Whether the records are those of a run that is so far.
@@ -227,8 +305,7 @@ fn is_so_far(os: &LibOs) -> bool
 {
     match os.boot {
         Boot::Up => process_by_pid(os.processes.as_slice(), 1).is_some(),
-        Boot::Going => has_no_records(os) && os.next_id == 1,
-        Boot::NoProgram | Boot::BadProgram(_) => has_no_records(os),
+        Boot::Going | Boot::NoProgram | Boot::BadProgram(_) => has_no_records(os),
     }
 }
 
@@ -245,16 +322,24 @@ fn serves_in(boot: Boot, cont: &Option<Cont>) -> bool
     }
 }
 
+/// Whether the records fit, and with them how far the run is and what is served.
+fn is_fit(os: &LibOs, alloc: Global) -> Result<bool, AllocError>
+    ensures { IfOk result (λ fit. fit ≡ fits_alone os.now) }
+{
+    let records = are_fit_records(alloc, os)?;
+    Ok(records && (is_so_far(os) && serves_in(os.boot, &os.cont)))
+}
+
 /// Whether the library OS fits by itself: each id names one record, descriptors name open descriptions and each
 /// description has one, the threads' processes are alive, and what is served belongs to how far the run is.
 ///
 /// # Errors
 /// There was no memory.
-#[tactic(auto, using(libos_state::proofs::Alone::alone_decides))]
+#[tactic(auto, using(crate::proofs::Deciding::fits_decides))]
 pub fn fits(os: &LibOs, alloc: Global) -> Result<bool, Memory>
     ensures value { IfOk result (λ fit. fit ≡ fits_alone os.now) }
     ensures decides { IfOk result (λ fit. Decides fit (FitsAlone os.now)) }
 {
-    let records = are_fit_records(alloc, os)?;
-    Ok(records && (is_so_far(os) && serves_in(os.boot, &os.cont)))
+    let fit = is_fit(os, alloc)?;
+    Ok(fit)
 }

@@ -1,11 +1,11 @@
 ghost use Rattle.std.specs.Prelude.{◌≡◌, ℕ, ◌+◌, ◌<◌, ◌-◌, slice_index, slice_get, find, option_map, IfOk, List, take, drop, length};
 ghost use Rattle.std.specs.Option.{option_copied};
 ghost use Rattle.mono_model.specs.Machine.{register};
-ghost use Rattle.libos_state.specs.Records.{process_with, description_named, descriptor_named, description_behind, no_context};
+ghost use Rattle.libos_state.specs.Records.{process_with, thread_with, thread_named, description_named, descriptor_named, description_behind, no_context};
 ghost use Rattle.libos_state.specs.Pending.{upcall_in, handle, number, argument};
 
 use abi_calls::Upcall;
-use libos_state::{Cont, Description, DescriptorNote, Event, LibOs, ProcessNote};
+use libos_state::{Cont, Description, DescriptorNote, Event, LibOs, ProcessNote, ThreadNote};
 use rv_core::Context;
 
 /// The place of register a0 among the registers 1 to 31.
@@ -66,6 +66,20 @@ fn descriptor_by_number(descriptors: &[DescriptorNote], number: u64) -> Option<&
     ensures { option_copied result ≡ descriptor_named number descriptors.now }
 {
     descriptors.iter().find(|note| note.number == number)
+}
+
+/// The record of the thread that has a handle.
+pub fn thread_by_handle(threads: &[ThreadNote], handle: u64) -> Option<&ThreadNote>
+    ensures { option_copied result ≡ thread_with handle threads.now }
+{
+    threads.iter().find(|note| note.handle == handle)
+}
+
+/// The record of the thread of this id.
+pub fn thread_by_tid(threads: &[ThreadNote], tid: u64) -> Option<&ThreadNote>
+    ensures { option_copied result ≡ thread_named tid threads.now }
+{
+    threads.iter().find(|note| note.tid == tid)
 }
 
 /// The record of the open description of this id.

@@ -33,8 +33,6 @@ pub const ENOMEM: u64 = 12;
 
 pub const EINVAL: u64 = 22;
 
-const ENOSYS: u64 = 38;
-
 /// The rights to read, to write and to run.
 const ALL_RIGHTS: u64 = 7;
 
@@ -111,6 +109,7 @@ fn at_pages(
       names = [];
       bytes = [];
       handles = [];
+      later = [];
       numbers = page ∷ count ∷ [];
     }) }
 {
@@ -138,9 +137,9 @@ fn on_pages(
     }
 }
 
-/// The service of a call on pages, by its number; another call isn't there.
-pub fn memory_service(alloc: Global, upcall: Upcall) -> Result<Cont, AllocError>
-    ensures { IfOk result (λ cont. (os : LibOs)
+/// The service of a call on pages, by its number, or of another call, whose result is known.
+pub fn memory_service(alloc: Global, upcall: Upcall, known: u64) -> Result<Cont, AllocError>
+    ensures { IfOk result (λ cont. (os : LibOs) → known ≡ entered.known_result os upcall (register upcall.context 17)
         → entered.memory_entered os upcall (register upcall.context 17) ≡ record os { cont = Some cont }) }
 {
     let context = upcall.context;
@@ -153,13 +152,20 @@ pub fn memory_service(alloc: Global, upcall: Upcall) -> Result<Cont, AllocError>
         }
         MMAP => {
             let known = mmap_known(&context);
-            on_pages(alloc, upcall, known, Stage::AllocatePages, FIRST_MAPPED, count)
+            on_pages(
+                alloc,
+                upcall,
+                known,
+                Stage::AllocatePages,
+                FIRST_MAPPED,
+                count,
+            )
         }
         MPROTECT => {
             let known = mprotect_known(&context);
             on_pages(alloc, upcall, known, Stage::ProtectPages, page, count)
         }
-        _ => Ok(finishing(alloc, Event::Up(upcall), error(ENOSYS))),
+        _ => Ok(finishing(alloc, Event::Up(upcall), known)),
     }
 }
 

@@ -45,6 +45,15 @@ pub fn entry_of(alloc: Global, file: &[u8]) -> Result<u64, Memory>
     Ok(layout.entry)
 }
 
+/// The address after the program's last page.
+pub fn end_of(alloc: Global, file: &[u8]) -> Result<u64, Memory>
+    requires { refusal file.now ≡ None }
+    ensures { IfOk result (λ end. end ≡ (program_of file.now).end) }
+{
+    let layout = layout_in(alloc, file)?;
+    Ok(layout.end)
+}
+
 /// How many runs the program has.
 pub fn count_of_runs(alloc: Global, file: &[u8]) -> Result<u64, Memory>
     requires { refusal file.now ≡ None }

@@ -56,6 +56,7 @@ pub fn bare(alloc: Global, event: Event, stage: Stage) -> Cont
       names = [];
       bytes = [];
       handles = [];
+      later = [];
       numbers = [];
     } }
 {
@@ -67,6 +68,7 @@ pub fn bare(alloc: Global, event: Event, stage: Stage) -> Cont
         names: Items::new(alloc),
         bytes: Items::new(alloc),
         handles: Items::new(alloc),
+        later: Items::new(alloc),
         numbers: Items::new(alloc),
     }
 }
@@ -80,6 +82,7 @@ pub fn finishing(alloc: Global, event: Event, result_in_a0: u64) -> Cont
       names = [];
       bytes = [];
       handles = [];
+      later = [];
       numbers = [];
     } }
 {

@@ -4,12 +4,13 @@ ghost use Rattle.libos_state.specs.Pending as pending;
 ghost use Rattle.libos_state.specs.Pending.{number, run_piece};
 ghost use Rattle.libos_state.specs.declared.cont.Cont.{Cont};
 ghost use Rattle.libos_state.specs.Answered as spec;
-ghost use Rattle.libos_state.specs.Fits.{KeepsRun, KeepsPlace};
+ghost use Rattle.libos_state.specs.Fits.{KeepsProgram, KeepsRun, KeepsPlace};
+ghost use Rattle.libos_state.specs.Kept.{KeptAt};
 ghost use Rattle.libos_calls.specs.Left.{IsLengthSmall};
 
 use crate::calls::PIECE;
 use crate::kept::{first_items, number_at};
-use crate::program::{PAGE, count_of_runs, refusal_of};
+use crate::program::{PAGE, count_of_runs, end_of, refusal_of};
 use crate::start_calls::run_in;
 use abi_calls::Reply;
 use bas_edge::Memory;
@@ -181,29 +182,28 @@ pub fn run_loaded(alloc: Global, mut cont: Cont) -> Result<Cont, Memory>
     Ok(at_stage(alloc, cont, Stage::AllocateStack))
 }
 
+/// The description of an end of the console.
+fn console_description(id: u64, handle: u64, kind: Kind, access: u8) -> Description
+    ensures { result ≡ spec.console_description id handle kind access }
+{
+    Description {
+        id,
+        handle,
+        kind,
+        access,
+        append: false,
+        position: 0,
+    }
+}
+
 /// The open descriptions of the console.
 fn console_descriptions(alloc: Global, handles: &[u64]) -> Result<Items<Description>, AllocError>
     ensures { IfOk result (λ notes. (c : Cont) → c.handles ≡ handles.now
         → notes ≡ spec.console_descriptions c) }
 {
-    let input = Description {
-        id: 1,
-        handle: number_at(handles, 0),
-        kind: Kind::ConIn,
-        access: READ,
-    };
-    let output = Description {
-        id: 2,
-        handle: number_at(handles, 1),
-        kind: Kind::ConOut,
-        access: WRITE,
-    };
-    let errors = Description {
-        id: 3,
-        handle: number_at(handles, 2),
-        kind: Kind::ConErr,
-        access: WRITE,
-    };
+    let input = console_description(1, number_at(handles, 0), Kind::ConIn, READ);
+    let output = console_description(2, number_at(handles, 1), Kind::ConOut, WRITE);
+    let errors = console_description(3, number_at(handles, 2), Kind::ConErr, WRITE);
     Items::from_slice(alloc, &[input, output, errors])
 }
 
@@ -227,16 +227,22 @@ fn console_descriptors(alloc: Global) -> Result<Items<DescriptorNote>, AllocErro
 }
 
 /// The records of the run's first process, of its thread and of the console.
-fn first_records(alloc: Global, handles: &[u64]) -> Result<Change, AllocError>
-    ensures { IfOk result (λ change. (c : Cont) → c.handles ≡ handles.now
-        → change ≡ spec.change c Stage.StartThread Reply.Done) }
+fn first_records(alloc: Global, cont: &Cont) -> Result<Change, Memory>
+    requires { KeepsProgram cont.now }
+    ensures { IfOk result (λ change. change ≡ spec.change cont.now Stage.StartThread Reply.Done) }
 {
+    let handles = cont.handles.as_slice();
+    let end = end_of(alloc, cont.bytes.as_slice())?;
     let descriptions = console_descriptions(alloc, handles)?;
     let descriptors = console_descriptors(alloc)?;
     Ok(Change::Begins {
         process: ProcessNote {
             pid: 1,
+            parent: 0,
             handle: number_at(handles, 3),
+            break_start: end,
+            break_now: end,
+            handler: 0,
             code: None,
             descriptors,
         },
@@ -245,17 +251,19 @@ fn first_records(alloc: Global, handles: &[u64]) -> Result<Change, AllocError>
             pid: 1,
             handle: number_at(handles, 4),
             event: number_at(handles, 5),
+            saved: None,
         },
         descriptions,
     })
 }
 
 /// What a reply changes of the records.
-pub fn change_of(alloc: Global, cont: &Cont, reply: &Reply) -> Result<Change, AllocError>
+pub fn change_of(alloc: Global, cont: &Cont, reply: &Reply) -> Result<Change, Memory>
+    requires { KeptAt cont.now cont.now.stage }
     ensures { IfOk result (λ change. change ≡ spec.change cont.now cont.now.stage reply.now) }
 {
     match (cont.stage, reply) {
-        (Stage::StartThread, Reply::Done) => first_records(alloc, cont.handles.as_slice()),
+        (Stage::StartThread, Reply::Done) => first_records(alloc, cont),
         _ => Ok(Change::Same),
     }
 }

@@ -5,7 +5,7 @@ use Rattle.std.specs.Str.{bytes_eq}
 use Rattle.std.specs.Option.{option_map}
 use Rattle.std.specs.declared.option.Option.{Option}
 use Rattle.std.specs.declared.option.Option.TheVariants.{None, Some}
-use Rattle.std.proofs.Common.{refl, sym, ap, subst, ◌∙◌, true≢false}
+use Rattle.std.proofs.Common.{refl, sym, ap, subst, ◌∙◌, arith, true≢false}
 use Rattle.std.proofs.lemmas.Bool.{leb-true, le-leb}
 use Rattle.std.proofs.lemmas.Bool.Decides.{Decides-and, Decides-like, Decides-ltb, Decides-eqb}
 use Rattle.std.proofs.lemmas.Slice.Eq.{bytes_eq-Decides}
@@ -27,10 +27,10 @@ use Rattle.libos_state.specs.declared.cont.Stage.TheVariants.{CloseHandles, Exit
 use Rattle.libos_state.specs.declared.state.Boot.{Boot}
 use Rattle.libos_state.specs.declared.state.Boot.TheVariants as boot
 use Rattle.libos_state.specs.declared.state.LibOs.{LibOs}
-use Rattle.libos_state.specs.Records.{process_named, process_with}
+use Rattle.libos_state.specs.Records.{process_named, process_with, thread_named}
 use Rattle.libos_state.specs.Pending.{upcall_in, number, program_name, arguments, runs_in, run_in}
 use Rattle.libos_state.specs.Named.{consoles, kinds_at}
-use Rattle.libos_state.specs.Fits.{Fits, FitsCont, FitsBoot, FitsEvent, FitsNone, FitsRecords, are_distinct, is_given, is_fit_process, is_alive, is_described, is_fit_access, KeepsLists, HasHandles, FitsNames, AreNames, KeepsCode, KeepsPages, KeepsSize, KeepsRun, KeepsPlace, FitsKept, is_none, keeps_next, keeps_names, keeps_bytes, numbers_at, is_ended_with}
+use Rattle.libos_state.specs.Fits.{Fits, FitsCont, FitsBoot, FitsEvent, FitsNone, FitsRecords, are_distinct, is_given, is_fit_process, is_alive, is_described, is_fit_access, KeepsLists, HasHandles, FitsNames, AreNames, KeepsCode, KeepsPages, KeepsSize, KeepsRun, KeepsPlace, FitsKept, is_none, keeps_next, keeps_names, keeps_bytes, numbers_at, is_ended_with, is_fit_parent, is_fit_append, LAST_ID}
 use Rattle.libos_state.specs.Alone.{fits_records, has_first, HasNoRecords, has_no_records, FitsProgress, fits_progress, serves_in, FitsAlone, fits_alone, event_comes_to, FitsService, is_same_context, has_handles, keeps_lists, fits_names, are_names, keeps_code, keeps_pages, keeps_size, keeps_run, keeps_place, is_zero_alone, fits_kept, fits_service, FitsServices, IsAtEvent, HasConsoles, FitsSettledObjects, FitsWorld}
 
 -- ---- tests and what they tell
@@ -62,21 +62,28 @@ Decides-fits_records os = Decides-like (fits_records os)
       processes = p.1.1.1.1.1.0;
       threads = p.1.1.1.1.1.1.0;
       described = p.1.1.1.1.1.1.1.0;
-      access = p.1.1.1.1.1.1.1.1;
+      access = p.1.1.1.1.1.1.1.1.0;
+      append = p.1.1.1.1.1.1.1.1.1.0;
+      parents = p.1.1.1.1.1.1.1.1.1.1.0;
+      queued = p.1.1.1.1.1.1.1.1.1.1.1.0;
+      waits_once = p.1.1.1.1.1.1.1.1.1.1.1.1.0;
+      few_ids = p.1.1.1.1.1.1.1.1.1.1.1.1.1;
     })
-    (λ (r : FitsRecords os). (r.pids, (r.tids, (r.ids, (r.given_pids, (r.given_tids, (r.processes, (r.threads, (r.described, r.access)))))))))
+    (λ (r : FitsRecords os). (r.pids, (r.tids, (r.ids, (r.given_pids, (r.given_tids, (r.processes, (r.threads, (r.described, (r.access, (r.append, (r.parents, (r.queued, (r.waits_once, r.few_ids))))))))))))))
     (Decides-and _ _ (is_true _) (Decides-and _ _ (is_true _) (Decides-and _ _ (is_true _) (Decides-and _ _ (is_true _) (Decides-and _ _ (is_true _)
-    (Decides-and _ _ (is_true _) (Decides-and _ _ (is_true _) (Decides-and _ _ (is_true _) (is_true _)))))))))
+    (Decides-and _ _ (is_true _) (Decides-and _ _ (is_true _) (Decides-and _ _ (is_true _) (Decides-and _ _ (is_true _) (Decides-and _ _ (is_true _)
+    (Decides-and _ _ (is_true _) (Decides-and _ _ (is_true _) (Decides-and _ _ (is_true _) (Decides-leb os.next_id LAST_ID))))))))))))))
 
 Decides-has_no_records : (os : LibOs) → Decides (has_no_records os) (HasNoRecords os)
 Decides-has_no_records os = Decides-like (has_no_records os)
-    (λ p. record { processes = p.0; threads = p.1.0; descriptions = p.1.1 })
-    (λ (r : HasNoRecords os). (r.processes, (r.threads, r.descriptions)))
-    (Decides-and _ _ (Decides-none os.processes) (Decides-and _ _ (Decides-none os.threads) (Decides-none os.descriptions)))
+    (λ p. record { processes = p.0; threads = p.1.0; descriptions = p.1.1.0; queue = p.1.1.1.0; next_id = p.1.1.1.1 })
+    (λ (r : HasNoRecords os). (r.processes, (r.threads, (r.descriptions, (r.queue, r.next_id)))))
+    (Decides-and _ _ (Decides-none os.processes) (Decides-and _ _ (Decides-none os.threads) (Decides-and _ _ (Decides-none os.descriptions)
+    (Decides-and _ _ (Decides-none os.queue) (Decides-eqb os.next_id 1)))))
 
 Decides-fits_progress : (os : LibOs) (b : Boot) → Decides (fits_progress os b) (FitsProgress os b)
 Decides-fits_progress os boot.Up = is_true (has_first os)
-Decides-fits_progress os boot.Going = Decides-and (has_no_records os) _ (Decides-has_no_records os) (Decides-eqb os.next_id 1)
+Decides-fits_progress os boot.Going = Decides-has_no_records os
 Decides-fits_progress os boot.NoProgram = Decides-has_no_records os
 Decides-fits_progress os (boot.BadProgram cause) = Decides-has_no_records os
 
@@ -101,12 +108,13 @@ Decides-has_handles stage hs = Decides-eqb (length hs) (length (kinds_at stage))
 
 Decides-keeps_lists : (c : Cont) (stage : Stage) → Decides (keeps_lists c stage) (KeepsLists c stage)
 Decides-keeps_lists c stage = Decides-like (keeps_lists c stage)
-    (λ p. record { next = p.0; names = p.1.0; bytes = p.1.1.0; handles = p.1.1.1.0; numbers = p.1.1.1.1 })
-    (λ (r : KeepsLists c stage). (r.next, (r.names, (r.bytes, (r.handles, r.numbers)))))
+    (λ p. record { next = p.0; names = p.1.0; bytes = p.1.1.0; handles = p.1.1.1.0; later = p.1.1.1.1.0; numbers = p.1.1.1.1.1 })
+    (λ (r : KeepsLists c stage). (r.next, (r.names, (r.bytes, (r.handles, (r.later, r.numbers))))))
     (Decides-and _ _ (Decides-unless (keeps_next stage) _ (Decides-context c.next (upcall_in c.event).context))
     (Decides-and _ _ (Decides-unless (keeps_names stage) _ (Decides-none c.names))
     (Decides-and _ _ (Decides-unless (keeps_bytes stage) _ (Decides-none c.bytes))
-    (Decides-and _ _ (Decides-has_handles stage c.handles) (Decides-eqb (length c.numbers) (numbers_at stage))))))
+    (Decides-and _ _ (Decides-has_handles stage c.handles)
+    (Decides-and _ _ (Decides-none c.later) (Decides-eqb (length c.numbers) (numbers_at stage)))))))
 
 Decides-fits_names : (c : Cont) → Decides (fits_names c) (FitsNames c)
 Decides-fits_names c = Decides-like (fits_names c)
@@ -207,6 +215,11 @@ no_records_fit os none = record {
   threads = ap (list_all (λ n. is_alive (process_named n.pid os.processes))) none.threads;
   described = ap (list_all (λ d. is_described os d.id)) none.descriptions;
   access = ap (list_all (λ d. is_fit_access d.kind d.access)) none.descriptions;
+  append = ap (list_all (λ d. is_fit_append d.kind d.append)) none.descriptions;
+  parents = ap (list_all (is_fit_parent os)) none.processes;
+  queued = ap (list_all (λ q. is_some (thread_named q.tid os.threads))) none.queue;
+  waits_once = ap (λ qs. are_distinct (map (λ q. q.tid) qs)) none.queue;
+  few_ids = subst (λ n. n ≤ LAST_ID) (sym none.next_id) (omega arith);
 }
 
 -- the event of a service, against the library OS, the stage and the objects
@@ -230,8 +243,8 @@ module _ (os : LibOs) (o : Objects) where
   event_cut (event.Up u) stage fits =
       (subst (FitsProgress os) (sym fits.up) fits.first, ap (λ b. serves_in b (Some (event.Up u))) fits.up, fits.comes, (fits.current, fits.home))
   event_cut (event.Boot program args) stage fits =
-      let none : HasNoRecords os = record { processes = fits.processes; threads = fits.threads; descriptions = fits.descriptions } in
-      (subst (FitsProgress os) (sym fits.going) (none, fits.next_id), ap (λ b. serves_in b (Some (event.Boot program args))) fits.going, fits.starts, fits.current)
+      let none : HasNoRecords os = record { processes = fits.processes; threads = fits.threads; descriptions = fits.descriptions; queue = fits.queue; next_id = fits.next_id } in
+      (subst (FitsProgress os) (sym fits.going) none, ap (λ b. serves_in b (Some (event.Boot program args))) fits.going, fits.starts, fits.current)
 
   event_joined : (e : Event) (stage : Stage) → Cut e stage → FitsEvent os o e stage
   event_joined (event.Up u) stage cut =
@@ -239,13 +252,14 @@ module _ (os : LibOs) (o : Objects) where
       record { up = up; first = subst (FitsProgress os) up cut.0; current = cut.3.0; home = cut.3.1; comes = cut.2 }
   event_joined (event.Boot program args) stage cut =
       let going = start_serves os.boot program args cut.1 in
-      let begun : HasNoRecords os × (os.next_id ≡ 1) = subst (FitsProgress os) going cut.0 in
+      let none : HasNoRecords os = subst (FitsProgress os) going cut.0 in
       record {
         going = going;
-        next_id = begun.1;
-        processes = begun.0.processes;
-        threads = begun.0.threads;
-        descriptions = begun.0.descriptions;
+        next_id = none.next_id;
+        processes = none.processes;
+        threads = none.threads;
+        descriptions = none.descriptions;
+        queue = none.queue;
         current = cut.3;
         starts = cut.2;
       }
@@ -256,7 +270,7 @@ module _ (os : LibOs) (o : Objects) where
 
   none_cut : FitsNone os o → HasNoRecords os × HasConsoles os o
   none_cut fits = (
-    record { processes = fits.processes; threads = fits.threads; descriptions = fits.descriptions },
+    record { processes = fits.processes; threads = fits.threads; descriptions = fits.descriptions; queue = fits.queue; next_id = fits.next_id },
     record { handles = fits.handles; all = fits.all; objects = fits.objects },
   )
 
@@ -265,6 +279,8 @@ module _ (os : LibOs) (o : Objects) where
     processes = none.processes;
     threads = none.threads;
     descriptions = none.descriptions;
+    queue = none.queue;
+    next_id = none.next_id;
     handles = consoles.handles;
     all = consoles.all;
     objects = consoles.objects;

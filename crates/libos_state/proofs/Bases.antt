@@ -66,7 +66,7 @@ thread_at-found os w h n fits is =
     thread_at-base os w n.tid ∙ ap (option_map (thread_seen w.objects.live)) (find-key (λ (m : ThreadNote). m.tid) (λ m. m.handle == h) os.threads n fits.tids is)
 
 -- The exit code of a process is that of its record.
-code_of_process : (live : Live) (n : ProcessNote) (code : Option ℕ) → (process_if code (memory_of_object (get {R = nat_cmp} live n.handle)) n.descriptors).code ≡ code
+code_of_process : (live : Live) (n : ProcessNote) (code : Option ℕ) → (process_if n (memory_of_object (get {R = nat_cmp} live n.handle)) code).code ≡ code
 code_of_process live n None = refl
 code_of_process live n (Some code) = refl
 
@@ -85,12 +85,17 @@ description_at : (os : LibOs) (w : Visible) (d : Option DescriptorNote) → desc
 description_at os w None = refl
 description_at os w (Some d) = get-mapped (λ n. n.id) description_seen os.descriptions d.description
 
-described_open : (os : LibOs) (w : Visible) (fd : ℕ) (memory : Space) (descriptors : List DescriptorNote) (code : Option ℕ) → (not (is_some code) || is_none descriptors) ≡ true →
-    described_in (base os w) fd (Some (process_if code memory descriptors)) ≡ option_map description_seen (described os.descriptions (descriptor_named fd descriptors))
-described_open os w fd memory descriptors None none =
-    ap (described_by (base os w)) (get-mapped (λ n. n.number) (λ n. n.description) descriptors fd) ∙ description_at os w (descriptor_named fd descriptors)
-described_open os w fd memory [] (Some code) none = ap (described_by (base os w)) (get-empty fd)
-described_open os w fd memory (d ∷ descriptors) (Some code) none = absurd (cc)
+pub none_are : {A : Type 0} (xs : List A) → is_none xs ≡ true → xs ≡ []
+none_are [] none = refl
+none_are (x ∷ xs) none = absurd (cc)
+
+described_open : (os : LibOs) (w : Visible) (fd : ℕ) (memory : Space) (n : ProcessNote) (code : Option ℕ) → (not (is_some code) || is_none n.descriptors) ≡ true →
+    described_in (base os w) fd (Some (process_if n memory code)) ≡ option_map description_seen (described os.descriptions (descriptor_named fd n.descriptors))
+described_open os w fd memory n None none =
+    ap (described_by (base os w)) (get-mapped (λ d. d.number) (λ d. d.description) n.descriptors fd) ∙ description_at os w (descriptor_named fd n.descriptors)
+described_open os w fd memory n (Some code) none =
+    ap (described_by (base os w)) (get-empty fd)
+    ∙ sym (ap (λ ds. option_map description_seen (described os.descriptions (descriptor_named fd ds))) (none_are n.descriptors none))
 
 pub description_of-base : (os : LibOs) (w : Visible) (h fd : ℕ) (n : ProcessNote) → FitsRecords os → process_with h os.processes ≡ Some n →
     description_of (base os w) n.pid fd ≡ option_map description_seen (description_behind os h fd)
@@ -98,7 +103,7 @@ description_of-base os w h fd n fits is =
     let fit = list_all-find (is_fit_process os) (λ (m : ProcessNote). m.handle == h) os.processes n fits.processes is in
     let none = and_parts _ (not (is_some n.code) || is_none n.descriptors) (and_parts _ _ fit).1 in
     ap (described_in (base os w) fd) (process_at-found os w h n fits is)
-    ∙ described_open os w fd (memory_of_object (get {R = nat_cmp} w.objects.live n.handle)) n.descriptors n.code none.1
+    ∙ described_open os w fd (memory_of_object (get {R = nat_cmp} w.objects.live n.handle)) n n.code none.1
     ∙ sym (ap (λ x. option_map description_seen (records.described_in os fd x)) is)
 
 -- ---- what is recorded
@@ -182,11 +187,11 @@ threads_of-kept notes live live' same = same_numbers _ _ (λ q. get-mapped (λ n
     ∙ sym (get-mapped (λ n. n.tid) (thread_seen live) notes q))
 
 process_seen-kept : (live live' : Live) (n : ProcessNote) → get {R = nat_cmp} live' n.handle ≡ get {R = nat_cmp} live n.handle → process_seen live' n ≡ process_seen live n
-process_seen-kept live live' n same = ap (λ x. process_if n.code (memory_of_object x) n.descriptors) same
+process_seen-kept live live' n same = ap (λ x. process_if n (memory_of_object x) n.code) same
 
 thread_seen-kept : (live live' : Live) (n : ThreadNote) → get {R = nat_cmp} live' n.handle ≡ get {R = nat_cmp} live n.handle → get {R = nat_cmp} live' n.event ≡ get {R = nat_cmp} live n.event
     → thread_seen live' n ≡ thread_seen live n
-thread_seen-kept live live' n thread event = λ i. record { process = n.pid; context = context_of (thread i); woken = is_set (event i) }
+thread_seen-kept live live' n thread event = λ i. record { process = n.pid; context = context_of (thread i); woken = is_set (event i); saved = n.saved }
 
 -- Objects that agree at every recorded number.
 pub base-live : (os : LibOs) (w : Visible) (live : Live) → ((q : ℕ) → 1 ≤ times_named q (recorded os) → get {R = nat_cmp} live q ≡ get {R = nat_cmp} w.objects.live q)
@@ -213,9 +218,9 @@ module _ (os : LibOs) (w : Visible) (h p : ℕ) (n : ThreadNote) (context : Cont
   seen =
       let there : get {R = nat_cmp} now n.handle ≡ Some (Thread p context) = ap (get {R = nat_cmp} now) handle_is ∙ get-insert-same w.objects.live h (Thread p context) in
       let event = stays n.event (thread-no_event os h n once is (λ m. m.handle == h) n is) in
-      let was = sym (ap is_woken (thread_at-found os w h n fits is)) in
-      (λ i. record { process = n.pid; context = context_of (there i); woken = is_set (event i) })
-      ∙ (λ i. record { process = n.pid; context = context; woken = was i })
+      let was = thread_at-found os w h n fits is in
+      (λ i. record { process = n.pid; context = context_of (there i); woken = is_set (event i); saved = n.saved })
+      ∙ sym (ap (λ x. with_registers context x n.pid) was)
 
   other_seen : (q : ℕ) → q ≢ n.tid → (m : ThreadNote) → thread_named q os.threads ≡ Some m → thread_seen now m ≡ thread_seen w.objects.live m
   other_seen q other m there =
@@ -261,8 +266,8 @@ module _ (os : LibOs) (w : Visible) (h : ℕ) (n : ProcessNote) (s : Space) (fit
   process_now =
       let there : get {R = nat_cmp} now_running n.handle ≡ Some (Process s None) = ap (get {R = nat_cmp} now_running) process_is ∙ get-insert-same w.objects.live h (Process s None) in
       let old = memory_of_object (get {R = nat_cmp} w.objects.live n.handle) in
-      (λ i. process_if (alive i) (memory_of_object (there i)) n.descriptors)
-      ∙ sym (ap (λ c. record (process_if c old n.descriptors) { memory = s }) alive)
+      (λ i. process_if n (memory_of_object (there i)) (alive i))
+      ∙ sym (ap (λ c. record (process_if n old c) { memory = s }) alive)
 
   other_process : (q : ℕ) → q ≢ n.pid → (m : ProcessNote) → process_named q os.processes ≡ Some m → process_seen now_running m ≡ process_seen w.objects.live m
   other_process q other m there =

@@ -5,7 +5,7 @@ use Rattle.std.specs.Option.{option_map}
 use Rattle.std.specs.FinMap.{empty, insert}
 use Rattle.std.specs.declared.option.Option.{Option}
 use Rattle.std.specs.declared.option.Option.TheVariants.{None, Some}
-use Rattle.std.proofs.Common.{map-id, refl, sym, ap, ◌∙◌, arith, eq-eqb, ne_eqb}
+use Rattle.std.proofs.Common.{map-id, refl, sym, ap, subst, ◌∙◌, arith, eq-eqb, ne_eqb}
 use Rattle.std.proofs.lemmas.Bool.{and_from, and_parts, or_left}
 use Rattle.std.proofs.lemmas.List.Folds.{list_all-append}
 use Rattle.turn_sched.specs.Lists.{Waiting, Lists, is_resting, contains, is_at, no_threads, other_than, times, waiting_threads, without_resting}
@@ -21,8 +21,8 @@ use Rattle.libos_state.specs.declared.cont.Stage.TheVariants.{StartThread}
 use Rattle.libos_state.specs.declared.notes.Kind.TheVariants.{ConIn, ConOut, ConErr}
 use Rattle.libos_state.specs.declared.notes.ThreadNote.{ThreadNote}
 use Rattle.libos_state.specs.declared.state.LibOs.{LibOs}
-use Rattle.libos_state.specs.Records.{View, Visible, visible, with_visible, base, tids_of, lists_of, target_of, waiter_of, is_set, thread_with}
-use Rattle.libos_state.specs.Pending.{asked, handle, file_or_child}
+use Rattle.libos_state.specs.Records.{View, Visible, visible, with_visible, base, tids_of, lists_of, target_of, waiter_of, is_set, queued_seen, thread_with}
+use Rattle.libos_state.specs.Pending.{asked, handle, program_in, file_or_child}
 use Rattle.libos_state.specs.Answered.{answered_at, first_thread}
 use Rattle.libos_state.specs.Meaning.{settles, unstarted, child_memory, child_context}
 use Rattle.libos_state.specs.Named.{Named, AProcess, AThread, AnEvent, AConsole, is_of, recorded, named_as, kinds_at, times_named}
@@ -68,7 +68,10 @@ module _ (os : LibOs) (c : Cont) (v : Visible) (fits : FitsStage os v.objects c 
   kept = named_as c.handles (kinds_at StartThread)
 
   begun_records : FitsRecords up
-  begun_records = (Decides-fits_records up).0 refl
+  begun_records =
+      let start = start_of os v.objects c StartThread refl fits in
+      subst (λ queue. FitsRecords (record up { queue = queue })) (sym start.queue)
+      ((Decides-fits_records (record up { queue = [] })).0 refl)
 
   begun_once : (q : ℕ) → times_named q (recorded up ++ [])
       ≡ cond (is_to_name None (object_at v.objects q)) 1 0
@@ -163,19 +166,23 @@ module _ (os : LibOs) (c : Cont) (v : Visible) (fits : FitsStage os v.objects c 
 
   -- The machine that the records name, before its thread is ready.
   base_begun : base (up os c v fits) (with_visible v (resumed_objects v.objects (handle c 4)))
-      ≡ begun (unstarted v) (child_memory v c) (child_context v c)
+      ≡ begun (unstarted v) (child_memory v c) (program_in c).end (child_context v c)
   base_begun =
       let os' = up os c v fits in
+      let start = start_of os v.objects c StartThread refl fits in
+      let first = begun (unstarted v) (child_memory v c) (program_in c).end (child_context v c) in
       let rested = with_visible v (with_lists v.objects (without_resting v.objects.lists (handle c 4))) in
       base-with_ready os' rested (handle c 4) (first_thread c)
       (ap (λ b. cond b (Some (first_thread c)) None) (eq-eqb (handle c 4) (handle c 4) refl))
-      ∙ (λ i. made_ready (record (begun (unstarted v) (child_memory v c) (child_context v c)) {
+      ∙ (λ i. made_ready (record first {
         threads = insert empty 1 (record {
           process = 1;
           context = child_context v c;
           woken = is_set (fits.made.2 i);
+          saved = None;
         });
         lists = lists_before i;
+        queue = map queued_seen (start.queue i);
       }) 1)
 
 pub keeps_start_thread : (os : LibOs) (c : Cont) (w w' : View) (r : Reply)

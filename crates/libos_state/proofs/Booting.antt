@@ -42,6 +42,11 @@ boot_fits program args settings o answered can fresh sound =
         threads = refl;
         described = refl;
         access = refl;
+        append = refl;
+        parents = refl;
+        queued = refl;
+        waits_once = refl;
+        few_ids = omega arith;
       };
       objects = record {
         once = λ q. sym (ap (λ (live : Live). cond (is_to_name None (get {R = nat_cmp} live q)) 1 0) fresh.live
@@ -56,6 +61,7 @@ boot_fits program args settings o answered can fresh sound =
         processes = refl;
         threads = refl;
         descriptions = refl;
+        queue = refl;
         current = (AreEmpty-no_objects o sound fresh.live).current;
         starts = refl;
       };
@@ -64,6 +70,7 @@ boot_fits program args settings o answered can fresh sound =
         names = λ other. absurd (cc);
         bytes = λ _. refl;
         handles = refl;
+        later = refl;
         numbers = refl;
       };
       names = record {

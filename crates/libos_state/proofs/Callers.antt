@@ -30,4 +30,4 @@ module _ (os : LibOs) (c : Cont) (v : Visible) (records : FitsRecords os) (home 
   pub memory-caller : memory_at (base os v) (caller_in os c).process ≡ home.links.memory
   memory-caller = ap (memory_at (base os v)) caller_pid
       ∙ ap memory_in (process_at-found os v u.process process records behind_process)
-      ∙ (λ i. memory_in (Some (process_if (home.links.code i) (memory_of_object (home.links.runs i)) process.descriptors)))
+      ∙ (λ i. memory_in (Some (process_if process (memory_of_object (home.links.runs i)) (home.links.code i))))

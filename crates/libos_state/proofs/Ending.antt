@@ -64,7 +64,7 @@ module _ (os : LibOs) (o : Objects) (c : Cont) (records : FitsRecords os) (event
         records = FitsRecords-with_service os os.boot (Some c') records;
         objects = FitsObjects-with_service os os.boot (Some c') o [] (Some (upcall_in c.event).process) objects;
         event = exiting_event (Some c');
-        lists = record { next = λ keeps. refl; names = λ keeps. refl; bytes = λ keeps. refl; handles = refl; numbers = ap length kept.kept };
+        lists = record { next = λ keeps. refl; names = λ keeps. refl; bytes = λ keeps. refl; handles = refl; later = refl; numbers = ap length kept.kept };
         names = tt;
         kept = record { code = kept.code; kept = kept.kept; byte = kept.byte; ended = kept.ended };
         made = tt;
@@ -75,7 +75,7 @@ module _ (os : LibOs) (o : Objects) (c : Cont) (records : FitsRecords os) (event
         records = FitsRecords-with_service os os.boot (Some c') records;
         objects = FitsObjects-with_service os os.boot (Some c') o (to_close (h ∷ hs)) (Some (upcall_in c.event).process) objects;
         event = closing_event (Some c');
-        lists = record { next = λ keeps. refl; names = λ keeps. refl; bytes = λ keeps. refl; handles = omega arith; numbers = ap length kept.kept };
+        lists = record { next = λ keeps. refl; names = λ keeps. refl; bytes = λ keeps. refl; handles = omega arith; later = refl; numbers = ap length kept.kept };
         names = tt;
         kept = record { code = kept.code; kept = kept.kept; byte = kept.byte; ended = kept.ended };
         made = tt;
@@ -348,15 +348,15 @@ module _ (os : LibOs) (c : Cont) (v : Visible) (fits : FitsStage os v.objects c 
         | true ↦ λ same.
             let found = process_with-found os v.objects [] (Some p) fits.records objects_are (λ m. m.pid == q) n named in
             let coded : n.code ≡ Some code = ended_code n (ap (λ h. process_with h os.processes) (sym (eqb-true n.handle p same)) ∙ found) in
-            (λ i. process_if (coded i) now n.descriptors) ∙ sym (λ i. process_if (coded i) was n.descriptors)
-        | false ↦ λ other. ap (λ x. process_if n.code (memory_of_object x) n.descriptors) (stays_seen n.handle (eqb-false n.handle p other))
+            ap (process_if n now) coded ∙ sym (ap (process_if n was) coded)
+        | false ↦ λ other. ap (λ x. process_if n (memory_of_object x) n.code) (stays_seen n.handle (eqb-false n.handle p other))
       ] refl
 
   thread_same : (q : ℕ) (n : ThreadNote) → thread_named q os.threads ≡ Some n → thread_seen exited.live n ≡ thread_seen left.live n
   thread_same q n named =
       let handle_stays = stays_seen n.handle (no_process AThread n.handle refl (list_all-find (λ (m : ThreadNote). is_of AThread (object_at v.objects m.handle)) (λ m. m.tid == q) os.threads n kinds.threads named)) in
       let event_stays = stays_seen n.event (no_process AnEvent n.event refl (list_all-find (λ (m : ThreadNote). is_of AnEvent (object_at v.objects m.event)) (λ m. m.tid == q) os.threads n kinds.events named)) in
-      λ i. record { process = n.pid; context = context_of (handle_stays i); woken = is_set (event_stays i) }
+      λ i. record { process = n.pid; context = context_of (handle_stays i); woken = is_set (event_stays i); saved = n.saved }
 
   pub exited_base : base os (with_visible v exited) ≡ base os v
   exited_base =

@@ -9,10 +9,11 @@ use Rattle.turn_sched.specs.Lists.{is_at}
 use Rattle.abi_calls.specs.declared.threads.Turned.{Turned}
 use Rattle.abi_calls.specs.declared.threads.Turned.TheVariants.{Exception}
 use Rattle.abi_calls.specs.declared.threads.Upcall.{Upcall}
-use Rattle.abi_calls.specs.Objects.{Objects}
-use Rattle.mono_model.specs.Machine.{Mono, register}
-use Rattle.mono_model.specs.Calls.{Caller, Served, WRITE, EXIT, MUNMAP, MMAP, MPROTECT, EBADF, ENOSYS, error, unless_known, munmap_known, munmap, free_pages, mprotect_known, mprotect, protect_pages, mmap_known, mmap, map_from, memory_call, fault_code, finished, silently, ended, description_of, write, write_to, write_from, writable, moved, exit, system_call, served}
+use Rattle.abi_calls.specs.Objects.{Objects, object_at}
+use Rattle.mono_model.specs.Machine.{Mono, register, process_at}
+use Rattle.mono_model.specs.Calls.{Caller, Served, WRITE, MUNMAP, MMAP, MPROTECT, EBADF, ENOSYS, error, unless_known, munmap_known, munmap, free_pages, mprotect_known, mprotect, protect_pages, mmap_known, mmap, map_from, memory_call, fault_code, finished, silently, ended, description_of, write, write_to, write_from, writable, moved, exit, system_call, served, is_exit, SCHED_YIELD, GETPID, GETPPID, GETTID, parent_in}
 use Rattle.mono_model.specs.Mapping.{FIRST_MAPPED, pages_for}
+use Rattle.mono_model.specs.Calls as calls
 use Rattle.mono_model.specs.Starting.{Runs}
 use Rattle.libos_state.specs.declared.cont.Cont.{Cont}
 use Rattle.libos_state.specs.declared.cont.Stage.TheVariants.{SetContext, CloseHandles, ReadBuffer, AllocatePages, FreePages, ProtectPages}
@@ -21,17 +22,17 @@ use Rattle.libos_state.specs.declared.notes.Description.{Description}
 use Rattle.libos_state.specs.declared.notes.ProcessNote.{ProcessNote}
 use Rattle.libos_state.specs.declared.state.LibOs.{LibOs}
 use Rattle.libos_state.specs.declared.state.Boot.TheVariants.{Up}
-use Rattle.libos_state.specs.Records.{Visible, with_visible, base, description_behind, description_seen, stream_of_kind, process_named, process_with, pid_with}
+use Rattle.libos_state.specs.Records.{Visible, with_visible, base, description_behind, description_seen, stream_of_kind, memory_of_object, process_if, process_named, process_with, pid_with, pid_of}
 use Rattle.libos_state.specs.Answered.{goes_on}
-use Rattle.libos_state.specs.Entered.{entered, entered_with, result_of, write_entered, ends_process, call_entered, on_pages, munmap_entered, mmap_entered, mprotect_entered, memory_entered, handles_of, note_ended, without_process}
+use Rattle.libos_state.specs.Entered.{entered, entered_with, result_of, write_entered, ends_process, call_entered, on_pages, munmap_entered, mmap_entered, mprotect_entered, memory_entered, handles_of, note_ended, without_process, parent_of, known_result}
 use Rattle.libos_state.specs.Meaning.{caller_of, leads_to, settles}
-use Rattle.libos_state.specs.Fits.{FitsStage, FitsTrap, KeepsPages, comes_to, is_undecided, is_call, is_recorded, is_writable, is_ended_with, writes, returns}
+use Rattle.libos_state.specs.Fits.{FitsStage, FitsTrap, KeepsPages, comes_to, is_undecided, is_call, is_recorded, is_writable, is_ended_with, writes, returns, is_exit_call}
 use Rattle.libos_state.specs.Turned.{FitsTrapped, TurnsTo}
 use Rattle.libos_state.specs.Laws.{EntersTurn}
 use Rattle.libos_state.proofs.Rows.{Stands}
 use Rattle.libos_state.proofs.Going.{FitsRecords-with_service, FitsObjects-with_service}
 use Rattle.libos_state.proofs.Naming.{times_named-recorded, times_recorded-most, Trapped, trapped, caller_of-trapped}
-use Rattle.libos_state.proofs.Bases.{description_of-base}
+use Rattle.libos_state.proofs.Bases.{description_of-base, process_at-found}
 use Rattle.libos_state.proofs.Mapping.{munmap_asks, mprotect_asks, mmap_asks}
 use Rattle.libos_state.proofs.Serving.{numbers_fit, result_fits}
 use Rattle.libos_state.proofs.Writing.{served_write}
@@ -52,7 +53,7 @@ fault_byte cause =
 
 -- Where the trap's process ends, the library OS stands for the machine in which it has ended.
 abbrev pub EndsProcess : LibOs → Visible → Upcall → Type 0
-EndsProcess os v u = (code : ℕ) → code < 256 → (not (u.cause == 8) || is_call u EXIT) ≡ true
+EndsProcess os v u = (code : ℕ) → code < 256 → (not (u.cause == 8) || is_exit_call u) ≡ true
     → Stands (ends_process os u code) v (leads_to (silently (ended (base os v) (caller_of os u).process code)))
 
 module _ (os : LibOs) (v : Visible) (u : Upcall) (up : os.boot ≡ Up) (fits : FitsTrapped os v.objects u) (ends : EndsProcess os v u) where
@@ -76,9 +77,9 @@ module _ (os : LibOs) (v : Visible) (u : Upcall) (up : os.boot ≡ Up) (fits : F
   }
 
   -- a call that isn't an exit goes on behind itself
-  call_returns : (u.cause == 8) ≡ true → (register u.context 17 == EXIT) ≡ false → returns os u ≡ true
-  call_returns call other = and_from (u.cause == 8) (not (is_call u EXIT) && is_recorded os u) call
-      (and_from (not (is_call u EXIT)) (is_recorded os u) (λ i. not (call i && other i)) fits.recorded)
+  call_returns : (u.cause == 8) ≡ true → is_exit (register u.context 17) ≡ false → returns os u ≡ true
+  call_returns call other = and_from (u.cause == 8) (not (is_exit_call u) && is_recorded os u) call
+      (and_from (not (is_exit_call u)) (is_recorded os u) (λ i. not (call i && other i)) fits.recorded)
 
   -- a write of some bytes to a descriptor that is open for writing
   abbrev fd : ℕ
@@ -95,7 +96,7 @@ module _ (os : LibOs) (v : Visible) (u : Upcall) (up : os.boot ≡ Up) (fits : F
     number : (register u.context 17 == WRITE) ≡ true
 
   write_returns : IsWrite → returns os u ≡ true
-  write_returns is = call_returns is.call (ap (λ n. n == EXIT) (eqb-true (register u.context 17) WRITE is.number))
+  write_returns is = call_returns is.call (ap is_exit (eqb-true (register u.context 17) WRITE is.number))
 
   abbrev reading : Cont
   reading = record (entered_with u) { stage = ReadBuffer }
@@ -110,7 +111,7 @@ module _ (os : LibOs) (v : Visible) (u : Upcall) (up : os.boot ≡ Up) (fits : F
         (and_from (is_call u WRITE) (not (register u.context 12 == 0) && is_writable (description_behind os u.process fd))
         (and_from (u.cause == 8) (register u.context 17 == WRITE) is.call is.number)
         (and_from (not (register u.context 12 == 0)) (is_writable (description_behind os u.process fd)) (ap not some) (ap is_writable behind ∙ allowed))) fits.recorded);
-    lists = record { next = λ keeps. refl; names = λ keeps. refl; bytes = λ keeps. refl; handles = refl; numbers = refl };
+    lists = record { next = λ keeps. refl; names = λ keeps. refl; bytes = λ keeps. refl; handles = refl; later = refl; numbers = refl };
     names = tt;
     kept = tt;
     made = tt;
@@ -149,6 +150,22 @@ module _ (os : LibOs) (v : Visible) (u : Upcall) (up : os.boot ≡ Up) (fits : F
   abbrev number : ℕ
   number = register u.context 17
 
+  -- a result that is known at once
+  parent_is : parent_of (process_with u.process os.processes) ≡ parent_in (process_at m who.process)
+  parent_is =
+      let behind = ap (λ h. process_with h os.processes) home.process ∙ home.links.behind in
+      ap parent_of behind
+      ∙ sym (ap (λ p. parent_in (process_at m p)) (ap pid_of behind)
+      ∙ ap parent_in (process_at-found os v u.process home.links.process fits.records behind)
+      ∙ seen_parent home.links.process.code)
+    where
+      seen_parent : (code : Option ℕ) → parent_in (Some (process_if home.links.process (memory_of_object (object_at v.objects home.links.process.handle)) code)) ≡ home.links.process.parent
+      seen_parent None = refl
+      seen_parent (Some code) = refl
+
+  known_is : known_result os u number ≡ calls.known_result m who number
+  known_is = ap (λ parent. if number == SCHED_YIELD then 0 else (if number == GETPID then who.process else (if number == GETPPID then parent else (if number == GETTID then who.thread else error ENOSYS)))) parent_is
+
   -- a call on pages: a result that its arguments decide, or a stage
   abbrev paged : Stage → ℕ → ℕ → Cont
   paged stage page count = record (entered_with u) { stage = stage; numbers = page ∷ count ∷ [] }
@@ -167,8 +184,8 @@ module _ (os : LibOs) (v : Visible) (u : Upcall) (up : os.boot ≡ Up) (fits : F
       and_from (is_call u n) (not (is_some known) && is_recorded os u) (and_from (u.cause == 8) (register u.context 17 == n) is.0 is.1)
       (and_from (not (is_some known)) (is_recorded os u) (ap (λ x. not (is_some x)) none) fits.recorded)
 
-  call_goes : (n : ℕ) → (n == EXIT) ≡ false → IsCall n → returns os u ≡ true
-  call_goes n other is = call_returns is.0 (ap (λ k. k == EXIT) (eqb-true (register u.context 17) n is.1) ∙ other)
+  call_goes : (n : ℕ) → is_exit n ≡ false → IsCall n → returns os u ≡ true
+  call_goes n other is = call_returns is.0 (ap is_exit (eqb-true (register u.context 17) n is.1) ∙ other)
 
   abbrev pages : ℕ
   pages = pages_for (register u.context 11)
@@ -208,37 +225,39 @@ module _ (os : LibOs) (v : Visible) (u : Upcall) (up : os.boot ≡ Up) (fits : F
         means = refl;
       })
 
-  memory_stands : (u.cause == 8) ≡ true → (number == EXIT) ≡ false → (unmaps maps protects : Bool) → (number == MUNMAP) ≡ unmaps → (number == MMAP) ≡ maps → (number == MPROTECT) ≡ protects →
-      Stands (cond unmaps (munmap_entered os u) (cond maps (mmap_entered os u) (cond protects (mprotect_entered os u) (result_of os u (error ENOSYS))))) v
-      (leads_to (silently (cond unmaps (munmap m who) (cond maps (mmap m who) (cond protects (mprotect m who) (finished m who (error ENOSYS)))))))
+  memory_stands : (u.cause == 8) ≡ true → is_exit number ≡ false → (unmaps maps protects : Bool) → (number == MUNMAP) ≡ unmaps → (number == MMAP) ≡ maps → (number == MPROTECT) ≡ protects →
+      Stands (cond unmaps (munmap_entered os u) (cond maps (mmap_entered os u) (cond protects (mprotect_entered os u) (result_of os u (known_result os u number))))) v
+      (leads_to (silently (cond unmaps (munmap m who) (cond maps (mmap m who) (cond protects (mprotect m who) (finished m who (calls.known_result m who number)))))))
   memory_stands call other true maps protects is m p = munmap_stands (call, is)
   memory_stands call other false true protects u is p = mmap_stands (call, is)
   memory_stands call other false false true u m is = mprotect_stands (call, is)
-  memory_stands call other false false false u m p = result_stands (error ENOSYS) (call_returns call other)
+  memory_stands call other false false false x y z =
+      subst (λ result. Stands (result_of os u (known_result os u number)) v (leads_to (silently (finished m who result)))) known_is
+      (result_stands (known_result os u number) (call_returns call other))
 
-  other_stands : (u.cause == 8) ≡ true → (exits : Bool) → (number == EXIT) ≡ exits →
+  other_stands : (u.cause == 8) ≡ true → (exits : Bool) → is_exit number ≡ exits →
       Stands (cond exits (ends_process os u (register u.context 10 % 256)) (memory_entered os u number)) v
       (leads_to (cond exits (silently (exit m who)) (silently (memory_call m who number))))
   other_stands call true is = ends (register u.context 10 % 256) (omega arith)
-      (or_right (not (u.cause == 8)) (is_call u EXIT) (and_from (u.cause == 8) (number == EXIT) call is))
+      (or_right (not (u.cause == 8)) (is_exit_call u) (and_from (u.cause == 8) (is_exit number) call is))
   other_stands call false other = memory_stands call other (number == MUNMAP) (number == MMAP) (number == MPROTECT) refl refl refl
 
   abbrev other_entered : LibOs
-  other_entered = if number == EXIT then ends_process os u (register u.context 10 % 256) else memory_entered os u number
+  other_entered = if is_exit number then ends_process os u (register u.context 10 % 256) else memory_entered os u number
 
   abbrev other_call : Served
-  other_call = if number == EXIT then silently (exit m who) else silently (memory_call m who number)
+  other_call = if is_exit number then silently (exit m who) else silently (memory_call m who number)
 
   call_stands : (u.cause == 8) ≡ true → (writes : Bool) → (number == WRITE) ≡ writes →
       Stands (cond writes (write_entered os u (description_behind os u.process fd)) other_entered) v (leads_to (cond writes (write m who) other_call))
   call_stands call true is = write_stands (record { call = call; number = is })
-  call_stands call false other = other_stands call (number == EXIT) refl
+  call_stands call false other = other_stands call (is_exit number) refl
 
   cause_stands : (calls : Bool) → (u.cause == 8) ≡ calls →
       Stands (cond calls (call_entered os u number) (ends_process os u (fault_code u.cause))) v
       (leads_to (cond calls (system_call m who number) (silently (ended m who.process (fault_code u.cause)))))
   cause_stands true is = call_stands is (number == WRITE) refl
-  cause_stands false fault = ends (fault_code u.cause) (fault_byte u.cause) (or_left (not (u.cause == 8)) (is_call u EXIT) (ap not fault))
+  cause_stands false fault = ends (fault_code u.cause) (fault_byte u.cause) (or_left (not (u.cause == 8)) (is_exit_call u) (ap not fault))
 
   pub entered_stands-by : Stands (entered os u) v (leads_to (served m who (u.cause, u.value)))
   entered_stands-by = cause_stands (u.cause == 8) refl
@@ -270,7 +289,7 @@ module _ (os : LibOs) (v : Visible) (u : Upcall) (up : os.boot ≡ Up) (fits : F
       (eq-eqb process.pid p (sym (pid_is os v.objects u home_of code fits.records fits.objects))))
       ∙ eq-eqb code code refl
 
-  ending_trap : (not (u.cause == 8) || is_call u EXIT) ≡ true → FitsTrap left v.objects u CloseHandles
+  ending_trap : (not (u.cause == 8) || is_exit_call u) ≡ true → FitsTrap left v.objects u CloseHandles
   ending_trap comes = record {
     up = up;
     first = ap is_some (process_named-ended p code 1 os.processes) ∙ some_mapped (note_ended p code) (process_named 1 os.processes) fits.first;
@@ -279,7 +298,7 @@ module _ (os : LibOs) (v : Visible) (u : Upcall) (up : os.boot ≡ Up) (fits : F
     comes = comes;
   }
 
-  process_ends : (not (u.cause == 8) || is_call u EXIT) ≡ true → Stands (ends_process os u code) v (leads_to (silently (ended (base os v) p code)))
+  process_ends : (not (u.cause == 8) || is_exit_call u) ≡ true → Stands (ends_process os u code) v (leads_to (silently (ended (base os v) p code)))
   process_ends comes = record {
     fits = closing_fits left v.objects ending (FitsRecords-without_process os p code fits.records) (ending_trap comes)
         (record { code = code; kept = refl; byte = byte; ended = ended_code }) (handles_of os p)

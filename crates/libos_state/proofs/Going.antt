@@ -24,6 +24,11 @@ FitsRecords-with_service os boot cont fits = record {
   threads = fits.threads;
   described = fits.described;
   access = fits.access;
+  append = fits.append;
+  parents = fits.parents;
+  queued = fits.queued;
+  waits_once = fits.waits_once;
+  few_ids = fits.few_ids;
 }
 
 pub FitsObjects-with_service : (os : LibOs) (boot : Boot) (cont : Option Cont) (o : Objects)

@@ -12,24 +12,25 @@ use Rattle.std.specs.declared.option.Option.{Option}
 use Rattle.std.specs.declared.option.Option.TheVariants.{None, Some}
 use Rattle.std.proofs.Common.{refl, sym, ap, ◌∙◌, arith, eqb-true}
 use Rattle.std.proofs.lemmas.Bool.{and_parts, not-true, cond-true}
+use Rattle.guest_space.specs.Space.{Space}
 use Rattle.turn_sched.specs.Lists.{Waiting, contains}
-use Rattle.turn_sched.proofs.Renamed.{list_any-map}
+use Rattle.turn_sched.proofs.Renamed.{list_any-map, filter-map}
 use Rattle.bas_items.proofs.NumberMaps.{get-insert, get-retain_keys, same_numbers}
-use Rattle.mono_model.specs.Machine.{Mono, Target, Opened, Exits, Wakes, Gone, Waiter, exited, is_of_process, is_thread_in}
+use Rattle.mono_model.specs.Machine.{Mono, Process, Target, Opened, Exits, Wakes, Gone, Waiter, exited, is_of_process, is_thread_in}
 use Rattle.mono_model.specs.Calls as calls
-use Rattle.mono_model.specs.Calls.{ended, target_left, waiter_left}
+use Rattle.mono_model.specs.Calls.{ended, with_exited, target_left, waiter_left}
 use Rattle.libos_state.specs.declared.notes.Description.{Description}
 use Rattle.libos_state.specs.declared.notes.DescriptorNote.{DescriptorNote}
 use Rattle.libos_state.specs.declared.notes.ProcessNote.{ProcessNote}
 use Rattle.libos_state.specs.declared.notes.ThreadNote.{ThreadNote}
 use Rattle.libos_state.specs.declared.state.LibOs.{LibOs}
-use Rattle.libos_state.specs.Records.{Visible, base, process_named, process_with, thread_named, thread_with, thread_woken_by, description_with, description_named, description_seen, memory_of_object, process_if, process_seen, thread_seen, processes_of, threads_of, descriptions_of, tids_of, target_of, target_by, waiter_of}
-use Rattle.libos_state.specs.Entered.{names_description, is_open_without, note_ended, without_process}
+use Rattle.libos_state.specs.Records.{Visible, base, process_named, process_with, thread_named, thread_with, thread_woken_by, description_with, description_named, description_seen, queued_seen, memory_of_object, process_if, process_seen, thread_seen, processes_of, threads_of, descriptions_of, tids_of, target_of, target_by, waiter_of}
+use Rattle.libos_state.specs.Entered.{names_description, is_open_without, note_ended, is_note_of, without_process}
 use Rattle.libos_state.specs.Named.{recorded, times_named}
 use Rattle.libos_state.specs.Fits.{FitsRecords, are_distinct, is_none, is_fit_process}
 use Rattle.libos_state.proofs.Distinct.{find-absent, find-key, contains-map}
 use Rattle.libos_state.proofs.Naming.{find-passes, find-uncounted, count_by-found, times_named-recorded}
-use Rattle.libos_state.proofs.Bases.{mapped, get-mapped, thread_at-base}
+use Rattle.libos_state.proofs.Bases.{mapped, get-mapped, none_are, process_at-base, thread_at-base}
 use Rattle.libos_state.proofs.LeftRecords.{note_ended-pid, note_ended-other, process_named-ended, process_with-ended}
 use Rattle.libos_state.proofs.Filtered.{kept_if, find-filter, count_by-distinct}
 
@@ -77,14 +78,14 @@ module _ (os : LibOs) (v : Visible) (records : FitsRecords os) (p : ℕ) where
   abbrev m : Mono
   m = base os v
 
-  names_in : (id : ℕ) (memory : _) (descriptors : List DescriptorNote) (code : Option ℕ) → are_distinct (map (λ d. d.number) descriptors) ≡ true → (not (is_some code) || is_none descriptors) ≡ true
-      → contains (values (process_if code memory descriptors).descriptors) id ≡ list_any (λ d. d.description == id) descriptors
-  names_in id memory descriptors None distinct none =
-      list_any-map (λ (e : ℕ × ℕ). e.1) (λ x. x == id) (λ e. e.1 == id) (λ _. refl) (entries (mapped (λ (d : DescriptorNote). d.number) (λ d. d.description) descriptors))
-      ∙ list_any-mapped (λ (d : DescriptorNote). d.number) (λ d. d.description) (λ e. e.1 == id) descriptors distinct
-  names_in id memory [] (Some code) distinct none =
+  names_in : (id : ℕ) (memory : Space) (n : ProcessNote) (code : Option ℕ) → are_distinct (map (λ d. d.number) n.descriptors) ≡ true → (not (is_some code) || is_none n.descriptors) ≡ true
+      → contains (values (process_if n memory code).descriptors) id ≡ list_any (λ d. d.description == id) n.descriptors
+  names_in id memory n None distinct none =
+      list_any-map (λ (e : ℕ × ℕ). e.1) (λ x. x == id) (λ e. e.1 == id) (λ _. refl) (entries (mapped (λ (d : DescriptorNote). d.number) (λ d. d.description) n.descriptors))
+      ∙ list_any-mapped (λ (d : DescriptorNote). d.number) (λ d. d.description) (λ e. e.1 == id) n.descriptors distinct
+  names_in id memory n (Some code) distinct none =
       list_any-map (λ (e : ℕ × ℕ). e.1) (λ x. x == id) (λ e. e.1 == id) (λ _. refl) (entries empty) ∙ list_any-empty (λ (e : ℕ × ℕ). e.1 == id)
-  names_in id memory (d ∷ descriptors) (Some code) distinct none = absurd (cc)
+      ∙ sym (ap (list_any (λ d. d.description == id)) (none_are n.descriptors none))
 
   list_any-same : {N : Type 0} (ok test other : N → Bool) → ((n : N) → ok n ≡ true → test n ≡ other n) → (notes : List N) → list_all ok notes ≡ true → list_any test notes ≡ list_any other notes
   list_any-same ok test other same [] all = refl
@@ -99,7 +100,7 @@ module _ (os : LibOs) (v : Visible) (records : FitsRecords os) (p : ℕ) where
       (λ n fit.
       let parts = and_parts (are_distinct (map (λ d. d.number) n.descriptors)) _ fit in
       let none = and_parts _ (not (is_some n.code) || is_none n.descriptors) parts.1 in
-      ap (λ b. not (n.pid == p) && b) (names_in id (memory_of_object (get {R = nat_cmp} v.objects.live n.handle)) n.descriptors n.code parts.0 none.1))
+      ap (λ b. not (n.pid == p) && b) (names_in id (memory_of_object (get {R = nat_cmp} v.objects.live n.handle)) n n.code parts.0 none.1))
       os.processes records.processes
 
   -- ---- the three maps
@@ -110,19 +111,28 @@ module _ (os : LibOs) (v : Visible) (records : FitsRecords os) (p : ℕ) where
       let pid : n.pid ≡ q = eqb-true n.pid q (find-passes (λ j. j.pid == q) os.processes n is) in
       ap (λ j. Some (process_seen v.objects.live j)) (note_ended-other p code n (ap (λ k. k == p) pid ∙ other))
 
+  -- of a process that exits nothing is seen but its code and the numbers of its record
+  exited-seen : (code : ℕ) (n : ProcessNote) (was : Option ℕ) (memory old : Space)
+      → ◌≡◌ {A = Process} (process_if (record n { code = Some code; descriptors = [] }) memory (Some code)) (exited (process_if n old was) code)
+  exited-seen code n None memory old = refl
+  exited-seen code n (Some was) memory old = refl
+
   processes-ended : (code : ℕ) (n : ProcessNote) → process_named p os.processes ≡ Some n
-      → processes_of (map (note_ended p code) os.processes) v.objects.live ≡ insert (processes_of os.processes v.objects.live) p (exited code)
+      → processes_of (map (note_ended p code) os.processes) v.objects.live ≡ insert (processes_of os.processes v.objects.live) p (exited (process_seen v.objects.live n) code)
   processes-ended code n is =
       let before = processes_of os.processes v.objects.live in
       let pid = find-passes (λ j. j.pid == p) os.processes n is in
+      let gone = exited (process_seen v.objects.live n) code in
+      let memory = memory_of_object (get {R = nat_cmp} v.objects.live n.handle) in
       same_numbers _ _ (λ q. get-mapped (λ n. n.pid) (process_seen v.objects.live) (map (note_ended p code) os.processes) q
       ∙ ap (option_map (process_seen v.objects.live)) (process_named-ended p code q os.processes)
-      ∙ elim (q == p) as (λ b. (q == p) ≡ b → option_map (process_seen v.objects.live) (option_map (note_ended p code) (process_named q os.processes)) ≡ cond b (Some (exited code)) (get before q)) [
+      ∙ elim (q == p) as (λ b. (q == p) ≡ b → option_map (process_seen v.objects.live) (option_map (note_ended p code) (process_named q os.processes)) ≡ cond b (Some gone) (get before q)) [
         | true ↦ λ same. ap (λ t. option_map (process_seen v.objects.live) (option_map (note_ended p code) (process_named t os.processes))) (eqb-true q p same)
             ∙ ap (λ x. option_map (process_seen v.objects.live) (option_map (note_ended p code) x)) is
             ∙ ap (λ j. Some (process_seen v.objects.live j)) (cond-true (n.pid == p) (record n { code = Some code; descriptors = [] }) n pid)
+            ∙ ap Some (exited-seen code n n.code memory memory)
         | false ↦ λ other. seen_ended code q other (process_named q os.processes) refl ∙ sym (get-mapped (λ n. n.pid) (process_seen v.objects.live) os.processes q)
-      ] refl ∙ sym (get-insert before p (exited code) q))
+      ] refl ∙ sym (get-insert before p gone q))
 
   abbrev stays : ThreadNote → Bool
   stays n = not (n.pid == p)
@@ -249,10 +259,20 @@ module _ (os : LibOs) (v : Visible) (records : FitsRecords os) (p : ℕ) where
                 ] ∙ ap (λ b. map (waiter_left m p) (cond (not b) (named (map (target_of os) w.handles) n ∷ filter leaves rest) (filter leaves rest))) (sym (is_in (λ j. j.handle == w.thread) n is))
           ] refl
 
+      -- The queue.
+      queue-left : map queued_seen left.queue ≡ filter (λ q. not (is_thread_in m p q.thread)) (map queued_seen os.queue)
+      queue-left = sym (filter-map queued_seen (λ q. not (is_thread_in m p q.thread)) (λ q. not (is_note_of p (thread_named q.tid os.threads)))
+          (λ q. ap (λ x. not (is_of_process p x)) (thread_at-base os v q.tid) ∙ ap not (of_process-seen (thread_named q.tid os.threads))) os.queue)
+        where
+          of_process-seen : (x : Option ThreadNote) → is_of_process p (option_map (thread_seen v.objects.live) x) ≡ is_note_of p x
+          of_process-seen None = refl
+          of_process-seen (Some n) = refl
+
       -- The whole machine.
       pub base-without_process : (n : ProcessNote) → process_named p os.processes ≡ Some n → base (without_process os p code) v ≡ ended (base os v) p code
       base-without_process n is =
-          let ps = processes-ended code n is in
+          let there = process_at-base os v p ∙ ap (option_map (process_seen v.objects.live)) is in
+          let ps = processes-ended code n is ∙ sym (ap (with_exited m.processes p code) there) in
           let ready = tids-left v.objects.lists.ready in
           let waiting = waiters-left v.objects.lists.waiting in
-          λ i. record m { processes = ps i; threads = threads-ended i; descriptions = descriptions-ended i; lists = record m.lists { ready = ready i; waiting = waiting i } }
+          λ i. record m { processes = ps i; threads = threads-ended i; descriptions = descriptions-ended i; lists = record m.lists { ready = ready i; waiting = waiting i }; queue = queue-left i }

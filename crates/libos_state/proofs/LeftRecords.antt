@@ -1,5 +1,5 @@
 -- The records without a process that ends fit by themselves as before.
-use Rattle.std.specs.Prelude.{◌≡◌, ℕ, ◌==◌, Bool, true, false, cond, not, List, [], map, find, is_some}
+use Rattle.std.specs.Prelude.{◌≡◌, ℕ, ◌==◌, Bool, true, false, cond, not, ◌&&◌, ◌||◌, nat_lt, List, [], map, find, is_some}
 use Rattle.std.specs.List.{list_all, list_any}
 use Rattle.std.specs.Option.{option_map}
 use Rattle.std.specs.declared.option.Option.{Option}
@@ -12,11 +12,12 @@ use Rattle.turn_sched.proofs.ThreadLists.{list_all-filter}
 use Rattle.libos_state.specs.declared.notes.Description.{Description}
 use Rattle.libos_state.specs.declared.notes.DescriptorNote.{DescriptorNote}
 use Rattle.libos_state.specs.declared.notes.ProcessNote.{ProcessNote}
+use Rattle.libos_state.specs.declared.notes.Queued.{Queued}
 use Rattle.libos_state.specs.declared.notes.ThreadNote.{ThreadNote}
 use Rattle.libos_state.specs.declared.state.LibOs.{LibOs}
-use Rattle.libos_state.specs.Records.{process_named, process_with, description_named}
-use Rattle.libos_state.specs.Entered.{names_description, is_open_without, note_ended, without_process}
-use Rattle.libos_state.specs.Fits.{FitsRecords, are_distinct, is_fit_process, is_alive, is_fit_access, is_described, is_given}
+use Rattle.libos_state.specs.Records.{process_named, process_with, thread_named, description_named}
+use Rattle.libos_state.specs.Entered.{names_description, is_open_without, note_ended, is_note_of, without_process}
+use Rattle.libos_state.specs.Fits.{FitsRecords, are_distinct, is_fit_process, is_fit_parent, is_alive, is_fit_access, is_fit_append, is_described, is_given}
 use Rattle.libos_state.proofs.Distinct.{some_of, find-map, are_distinct-filter, map-keys}
 use Rattle.libos_state.proofs.Naming.{find-passes}
 use Rattle.libos_state.proofs.Filtered.{kept_if, find-filter, count_by-distinct, list_any-weaker, list_all-within}
@@ -28,6 +29,9 @@ module _ (p code : ℕ) (n : ProcessNote) where
 
   pub note_ended-handle : (note_ended p code n).handle ≡ n.handle
   note_ended-handle = elim (n.pid == p) as (λ b. (cond b (record n { code = Some code; descriptors = [] }) n).handle ≡ n.handle) [ true ↦ refl | false ↦ refl ]
+
+  note_ended-parent : (note_ended p code n).parent ≡ n.parent
+  note_ended-parent = elim (n.pid == p) as (λ b. (cond b (record n { code = Some code; descriptors = [] }) n).parent ≡ n.parent) [ true ↦ refl | false ↦ refl ]
 
   pub note_ended-other : (n.pid == p) ≡ false → note_ended p code n ≡ n
   note_ended-other other = cond-false (n.pid == p) (record n { code = Some code; descriptors = [] }) n other
@@ -90,10 +94,34 @@ module _ (os : LibOs) (p code : ℕ) (fits : FitsRecords os) where
       list_any-map ends (λ n. list_any (λ j. j.description == d.id) n.descriptors) (λ n. list_any (λ j. j.description == d.id) (ends n).descriptors) (λ _. refl) os.processes
       ∙ list_any-weaker (names_description p d.id) (λ n. list_any (λ j. j.description == d.id) (ends n).descriptors) (names_still d.id) os.processes opened
 
+  -- a parent has a record still
+  is_there : (x : Option ProcessNote) → is_some (option_map ends x) ≡ is_some x
+  is_there None = refl
+  is_there (Some n) = refl
+
+  parent_there : (q : ℕ) → is_some (process_named q left.processes) ≡ is_some (process_named q os.processes)
+  parent_there q = ap is_some (process_named-ended p code q os.processes) ∙ is_there (process_named q os.processes)
+
+  parent_left : (n : ProcessNote) → is_fit_parent left (ends n) ≡ is_fit_parent os n
+  parent_left n =
+      (λ i. note_ended-parent p code n i == 0 || (nat_lt (note_ended-parent p code n i) (note_ended-pid p code n i) && is_some (process_named (note_ended-parent p code n i) left.processes)))
+      ∙ ap (λ b. n.parent == 0 || (nat_lt n.parent n.pid && b)) (parent_there n.parent)
+
+  -- a thread that stays in the queue has a record still
+  stays_noted : (x : Option ThreadNote) → not (is_note_of p x) ≡ true → is_some x ≡ true → is_some (kept_if (λ n. not (n.pid == p)) x) ≡ true
+  stays_noted None stays some = some
+  stays_noted (Some n) stays some = ap is_some (cond-true (not (n.pid == p)) (Some n) None stays)
+
+  queued_left : (q : Queued) → not (is_note_of p (thread_named q.tid os.threads)) ≡ true → is_some (thread_named q.tid os.threads) ≡ true → is_some (thread_named q.tid left.threads) ≡ true
+  queued_left q stays some =
+      ap is_some (find-filter (λ n. not (n.pid == p)) (λ n. n.tid == q.tid) os.threads (count_by-distinct (λ (n : ThreadNote). n.tid) os.threads q.tid fits.tids))
+      ∙ stays_noted (thread_named q.tid os.threads) stays some
+
   pub FitsRecords-without_process : FitsRecords (without_process os p code)
   FitsRecords-without_process =
       let stays : ThreadNote → Bool = λ n. not (n.pid == p) in
       let opened : Description → Bool = λ d. is_open_without os p d.id in
+      let waits : Queued → Bool = λ q. not (is_note_of p (thread_named q.tid os.threads)) in
       record {
         pids = ap are_distinct (map-keys (λ (n : ProcessNote). n.pid) ends (note_ended-pid p code) os.processes) ∙ fits.pids;
         tids = are_distinct-filter (λ (n : ThreadNote). n.tid) stays os.threads fits.tids;
@@ -104,4 +132,9 @@ module _ (os : LibOs) (p code : ℕ) (fits : FitsRecords os) where
         threads = list_all-filter stays (λ n. is_alive (process_named n.pid os.processes)) (λ n. is_alive (process_named n.pid left.processes)) alive_left os.threads fits.threads;
         described = list_all-filter opened (λ d. is_described os d.id) (λ d. is_described left d.id) (λ d is _. described_left d is) os.descriptions fits.described;
         access = list_all-filter opened (λ d. is_fit_access d.kind d.access) (λ d. is_fit_access d.kind d.access) (λ d _ is. is) os.descriptions fits.access;
+        append = list_all-filter opened (λ d. is_fit_append d.kind d.append) (λ d. is_fit_append d.kind d.append) (λ d _ is. is) os.descriptions fits.append;
+        parents = list_all-map (is_fit_parent left) ends os.processes ∙ (λ i. list_all (λ n. parent_left n i) os.processes) ∙ fits.parents;
+        queued = list_all-filter waits (λ q. is_some (thread_named q.tid os.threads)) (λ q. is_some (thread_named q.tid left.threads)) queued_left os.queue fits.queued;
+        waits_once = are_distinct-filter (λ (q : Queued). q.tid) waits os.queue fits.waits_once;
+        few_ids = fits.few_ids;
       }

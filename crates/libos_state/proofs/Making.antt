@@ -156,8 +156,8 @@ keeps_create_thread os c w w' r fits sound abi =
                   ∙ contains_last w.objects.lists.suspended h;
             },
           );
-      means = (λ i. settles (begins (visible w) (memory_of_object (child i)) (context_of (made.there i))))
-          ∙ sym (ap (λ x. settles (begins (visible w) (memory_of_object x) context)) fits.made.child);
+      means = (λ i. settles (begins (visible w) c (memory_of_object (child i)) (context_of (made.there i))))
+          ∙ sym (ap (λ x. settles (begins (visible w) c (memory_of_object x) context)) fits.made.child);
     })
 
 -- ---- the thread's event
@@ -197,6 +197,6 @@ keeps_create_event os c w w' r fits sound abi =
             },
             made.there,
           );
-      means = (λ i. settles (begins (visible w) (memory_of_object (child i)) (context_of (there i))))
-          ∙ sym (λ i. settles (begins (visible w) (memory_of_object (has.child i)) (context_of (thread.is i))));
+      means = (λ i. settles (begins (visible w) c (memory_of_object (child i)) (context_of (there i))))
+          ∙ sym (λ i. settles (begins (visible w) c (memory_of_object (has.child i)) (context_of (thread.is i))));
     })

@@ -18,7 +18,7 @@ use Rattle.abi_calls.specs.Memory.{with_pages, memory_allocate_row, memory_free_
 use Rattle.abi_calls.specs.Sound.{IsSound}
 use Rattle.bas_items.proofs.NumberMaps.{get-insert-other}
 use Rattle.mono_model.specs.Machine.{Mono, register, process_at, with_memory_in}
-use Rattle.mono_model.specs.Calls.{Caller, EXIT, MUNMAP, MMAP, MPROTECT, ENOMEM, EINVAL, error, silently, finished, finished_with, memory_at, munmap_known, mmap_known, mprotect_known, map_from, map_pages, free_pages, protect_pages}
+use Rattle.mono_model.specs.Calls.{Caller, is_exit, MUNMAP, MMAP, MPROTECT, ENOMEM, EINVAL, error, silently, finished, finished_with, memory_at, munmap_known, mmap_known, mprotect_known, map_from, map_pages, free_pages, protect_pages}
 use Rattle.mono_model.specs.Mapping.{MOST_PAGES, is_page_start, pages_for, lowest_free}
 use Rattle.mono_model.specs.Starting.{STACK_PAGE}
 use Rattle.mono_model.proofs.Mapping.{lowest_free-here, lowest_free-next, lowest_free-end}
@@ -31,7 +31,7 @@ use Rattle.libos_state.specs.Pending.{asked, upcall_in, argument, number}
 use Rattle.libos_state.specs.Answered.{bare, goes_on, service_with_result, service_mapping, answered_at}
 use Rattle.libos_state.specs.Meaning.{Meaning, caller_in, leads_to, meant_at}
 use Rattle.libos_state.specs.Named.{named_as, recorded, times_named}
-use Rattle.libos_state.specs.Fits.{FitsRecords, FitsObjects, FitsStage, FitsEvent, FitsTrap, KeepsPages, comes_to, is_call, is_of_start, is_recorded, is_undecided, returns}
+use Rattle.libos_state.specs.Fits.{FitsRecords, FitsObjects, FitsStage, FitsEvent, FitsTrap, KeepsPages, comes_to, is_call, is_exit_call, is_of_start, is_recorded, is_undecided, returns}
 use Rattle.libos_state.proofs.Holds.{Holds}
 use Rattle.libos_state.proofs.Rows.{Stands, by_row}
 use Rattle.libos_state.proofs.Naming.{Trapped, trapped, thread_of, times_named-most}
@@ -62,11 +62,11 @@ undecided os u number known is =
     record { call = call.0; number_is = call.1; unknown = absent known rest.0; recorded = rest.1 }
 
 -- It goes on behind itself, if it isn't an exit.
-pub returns-undecided : (os : LibOs) (u : Upcall) (number : ℕ) (known : Option ℕ) → (number == EXIT) ≡ false → Undecided os u number known → returns os u ≡ true
+pub returns-undecided : (os : LibOs) (u : Upcall) (number : ℕ) (known : Option ℕ) → is_exit number ≡ false → Undecided os u number known → returns os u ≡ true
 returns-undecided os u number known other is =
-    let stays : (register u.context 17 == EXIT) ≡ false = ap (λ n. n == EXIT) (eqb-true (register u.context 17) number is.number_is) ∙ other in
-    and_from (u.cause == 8) (not (is_call u EXIT) && is_recorded os u) is.call
-    (and_from (not (is_call u EXIT)) (is_recorded os u) (λ i. not (is.call i && stays i)) is.recorded)
+    let stays : is_exit (register u.context 17) ≡ false = ap is_exit (eqb-true (register u.context 17) number is.number_is) ∙ other in
+    and_from (u.cause == 8) (not (is_exit_call u) && is_recorded os u) is.call
+    (and_from (not (is_exit_call u)) (is_recorded os u) (λ i. not (is.call i && stays i)) is.recorded)
 
 pages_some : (bytes : ℕ) → (bytes == 0) ≡ false → 1 ≤ pages_for bytes
 pages_some bytes some = let more = eqb-false bytes 0 some in omega arith
@@ -114,7 +114,7 @@ pub record Paging (os : LibOs) (c : Cont) (w : View) (stage : Stage) (number : �
   pub call : Undecided os (upcall_in c.event) number known
   pub goes : returns os (upcall_in c.event) ≡ true
 
-paging : (os : LibOs) (c : Cont) (w : View) (stage : Stage) (number : ℕ) (known : Option ℕ) → is_of_start stage ≡ false → (number == EXIT) ≡ false
+paging : (os : LibOs) (c : Cont) (w : View) (stage : Stage) (number : ℕ) (known : Option ℕ) → is_of_start stage ≡ false → is_exit number ≡ false
     → FitsRecords os → FitsObjects os w.objects (named_as c.handles []) None → FitsEvent os w.objects c.event stage
     → (comes_to os (upcall_in c.event) stage ≡ true → is_undecided os (upcall_in c.event) number known ≡ true) → Paging os c w stage number known
 paging os c w stage number known serves other records objects event comes =

@@ -89,6 +89,7 @@ module _ (os : LibOs) (c : Cont) (v : Visible) (fits : FitsStage os v.objects c 
       names = fits.lists.names;
       bytes = fits.lists.bytes;
       handles = fits.lists.handles;
+      later = fits.lists.later;
       numbers = fits.lists.numbers;
     };
     names = tt;

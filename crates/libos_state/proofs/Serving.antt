@@ -7,7 +7,6 @@ use Rattle.std.proofs.lemmas.Bool.{and_parts, or_right}
 use Rattle.turn_sched.specs.Lists.{is_resting, is_at, contains}
 use Rattle.abi_calls.specs.declared.threads.Upcall.{Upcall}
 use Rattle.abi_calls.specs.Objects.{Objects}
-use Rattle.mono_model.specs.Calls.{EXIT}
 use Rattle.libos_state.specs.declared.cont.Cont.{Cont}
 use Rattle.libos_state.specs.declared.cont.Event.{Event}
 use Rattle.libos_state.specs.declared.cont.Event.TheVariants as event
@@ -17,7 +16,7 @@ use Rattle.libos_state.specs.declared.state.LibOs.{LibOs}
 use Rattle.libos_state.specs.Pending.{upcall_in}
 use Rattle.libos_state.specs.Named.{ToClose, named_as, kinds_at, kept_names}
 use Rattle.libos_state.specs.Answered.{bare, goes_on, service_with_result}
-use Rattle.libos_state.specs.Fits.{FitsRecords, FitsObjects, FitsStage, FitsEvent, FitsTrap, FitsKept, FitsMade, AreNames, HasHandles, ending_at, keeps_names, numbers_at, comes_to, is_of_start, is_call, is_recorded, returns}
+use Rattle.libos_state.specs.Fits.{FitsRecords, FitsObjects, FitsStage, FitsEvent, FitsTrap, FitsKept, FitsMade, AreNames, HasHandles, ending_at, keeps_names, numbers_at, comes_to, is_of_start, is_call, is_recorded, returns, is_exit_call}
 use Rattle.libos_state.proofs.Going.{with_service, FitsRecords-with_service, FitsObjects-with_service}
 
 -- The event of a stage that starts nothing is a trap.
@@ -41,7 +40,7 @@ current_rests o t is = or_right (contains o.lists.suspended t) (is_at t o.lists.
 
 -- A call that its thread goes on behind has a thread that is recorded.
 pub returns-recorded : (os : LibOs) (u : Upcall) → returns os u ≡ true → is_recorded os u ≡ true
-returns-recorded os u is = (and_parts (not (is_call u EXIT)) (is_recorded os u) (and_parts (u.cause == 8) (not (is_call u EXIT) && is_recorded os u) is).1).1
+returns-recorded os u is = (and_parts (not (is_exit_call u)) (is_recorded os u) (and_parts (u.cause == 8) (not (is_exit_call u) && is_recorded os u) is).1).1
 
 -- The trap doesn't hang on the service in progress.
 pub FitsTrap-with_service : (os : LibOs) (cont : Option Cont) (o : Objects) (u : Upcall) (stage stage' : Stage) → FitsTrap os o u stage → comes_to os u stage' ≡ true
@@ -77,6 +76,7 @@ numbers_fit os o c stage numbers records objects event ends unnamed handles coun
         names = λ keeps. refl;
         bytes = λ keeps. refl;
         handles = handles;
+        later = refl;
         numbers = count;
       };
       names = subst (AreNames next) (sym unnamed) tt;
@@ -97,6 +97,7 @@ result_fits os o c result records objects fits = record {
     names = λ keeps. refl;
     bytes = λ keeps. refl;
     handles = refl;
+    later = refl;
     numbers = refl;
   };
   names = tt;

@@ -90,6 +90,7 @@ module _ (os : LibOs) (o : Objects) (c : Cont) (stage : Stage) (starts : is_of_s
           processes = start_of.processes;
           threads = start_of.threads;
           descriptions = start_of.descriptions;
+          queue = start_of.queue;
           current = current;
           starts = onward;
         });
@@ -98,6 +99,7 @@ module _ (os : LibOs) (o : Objects) (c : Cont) (stage : Stage) (starts : is_of_s
           names = λ none. absurd (cc);
           bytes = read;
           handles = held;
+          later = fits.lists.later;
           numbers = many;
         };
         names = subst (AreNames c') (sym onward) (record { some = names_of.some; named = names_of.named; short = names_of.short; few = names_of.few; args = names_of.args });
@@ -114,6 +116,8 @@ module _ (os : LibOs) (o : Objects) (c : Cont) (stage : Stage) (starts : is_of_s
     processes = start_of.processes;
     threads = start_of.threads;
     descriptions = start_of.descriptions;
+    queue = start_of.queue;
+    next_id = start_of.next_id;
     handles = handles;
     all = held;
     objects = FitsObjects-with_service os boot None o' (named_as handles consoles) None objects;

@@ -201,7 +201,7 @@ module _ (os : LibOs) (w : Visible) (fits : FitsUp os w.objects) (sound : IsSoun
     memory_is =
         ap (memory_at machine_picked) (sym links.pid)
         ∙ ap memory_in (process_at-found os (with_visible w picked) p links.process fits.records links.behind)
-        ∙ ap (λ code. (process_if code (memory_of_object (object_at awake p)) links.process.descriptors).memory) links.code
+        ∙ ap (λ code. (process_if links.process (memory_of_object (object_at awake p)) code).memory) links.code
         ∙ ap memory_of_object links.runs
 
     abbrev ran_from : Context → Space → Served

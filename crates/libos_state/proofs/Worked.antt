@@ -20,8 +20,10 @@ use Rattle.libos_state.specs.declared.cont.Event.TheVariants as event
 use Rattle.libos_state.specs.declared.cont.Stage.TheVariants.{CloseHandles, Resume, AllocatePages, FreePages, ProtectPages}
 use Rattle.libos_state.specs.declared.notes.Description.{Description}
 use Rattle.libos_state.specs.declared.notes.DescriptorNote.{DescriptorNote}
+use Rattle.libos_state.specs.declared.notes.Kind.{Kind}
 use Rattle.libos_state.specs.declared.notes.Kind.TheVariants.{ConIn, ConOut, ConErr}
 use Rattle.libos_state.specs.declared.notes.ProcessNote.{ProcessNote}
+use Rattle.libos_state.specs.declared.notes.Queued.{Queued}
 use Rattle.libos_state.specs.declared.notes.ThreadNote.{ThreadNote}
 use Rattle.libos_state.specs.declared.state.Boot.TheVariants.{Up, NoProgram}
 use Rattle.libos_state.specs.declared.state.LibOs.{LibOs}
@@ -67,20 +69,34 @@ named_once (e ∷ table) (n ∷ names) same distinct q =
 abbrev descriptor : ℕ → ℕ → DescriptorNote
 descriptor number description = record { number = number; description = description }
 
+abbrev process : ℕ → ℕ → ℕ → Option ℕ → List DescriptorNote → ProcessNote
+process pid parent handle code descriptors = record {
+  pid = pid;
+  parent = parent;
+  handle = handle;
+  break_start = 0x12000;
+  break_now = 0x12000;
+  handler = 0;
+  code = code;
+  descriptors = descriptors;
+}
+
+-- The second process is a child of the first.
 abbrev first_process : ProcessNote
-first_process = record { pid = 1; handle = 11; code = None; descriptors = descriptor 0 1 ∷ descriptor 1 2 ∷ descriptor 2 3 ∷ [] }
+first_process = process 1 0 11 None (descriptor 0 1 ∷ descriptor 1 2 ∷ descriptor 2 3 ∷ [])
 
 abbrev second_process : ProcessNote
-second_process = record { pid = 2; handle = 12; code = None; descriptors = descriptor 1 2 ∷ [] }
+second_process = process 2 1 12 None (descriptor 1 2 ∷ [])
 
 abbrev thread : ℕ → ℕ → ℕ → ℕ → ThreadNote
-thread tid pid handle event = record { tid = tid; pid = pid; handle = handle; event = event }
+thread tid pid handle event = record { tid = tid; pid = pid; handle = handle; event = event; saved = None }
+
+abbrev description : ℕ → ℕ → Kind → ℕ → Description
+description id handle kind access = record { id = id; handle = handle; kind = kind; access = access; append = false; position = 0 }
 
 abbrev console : List Description
 console =
-    record { id = 1; handle = 19; kind = ConIn; access = 1 } ∷
-    record { id = 2; handle = 20; kind = ConOut; access = 2 } ∷
-    record { id = 3; handle = 21; kind = ConErr; access = 2 } ∷ []
+    description 1 19 ConIn 1 ∷ description 2 20 ConOut 2 ∷ description 3 21 ConErr 2 ∷ []
 
 module _ (settings : Settings) (positions : Positions) (memory : Space) (context : Context) where
   abbrev with_records : List ProcessNote → List ThreadNote → LibOs
@@ -91,6 +107,7 @@ module _ (settings : Settings) (positions : Positions) (memory : Space) (context
     processes = processes;
     threads = threads;
     descriptions = console;
+    queue = [];
     cont = None;
   }
 
@@ -196,11 +213,36 @@ module _ (settings : Settings) (positions : Positions) (memory : Space) (context
   same_id_unfit : fits_alone (with_records two_processes (thread 1 1 13 16 ∷ thread 1 2 14 17 ∷ [])) ≡ false
   same_id_unfit = refl
 
-  exited_unfit : fits_alone (with_records (first_process ∷ record { pid = 2; handle = 12; code = Some 0; descriptors = [] } ∷ []) three_threads) ≡ false
+  exited_unfit : fits_alone (with_records (first_process ∷ process 2 1 12 (Some 0) [] ∷ []) three_threads) ≡ false
   exited_unfit = refl
 
   ungiven_unfit : fits_alone (with_records two_processes (thread 4 1 13 16 ∷ [])) ≡ false
   ungiven_unfit = refl
+
+  -- A parent came before its child, and is there; what the console is open to has no end; a queue has a thread with a record, and once.
+  later_parent_unfit : fits_alone (with_records (record first_process { parent = 2 } ∷ second_process ∷ []) three_threads) ≡ false
+  later_parent_unfit = refl
+
+  absent_parent_unfit : fits_alone (with_records (first_process ∷ process 3 2 12 None (descriptor 1 2 ∷ []) ∷ []) (thread 1 1 13 16 ∷ [])) ≡ false
+  absent_parent_unfit = refl
+
+  appending_unfit : fits_alone (record worked { descriptions = description 1 19 ConIn 1 ∷ record (description 2 20 ConOut 2) { append = true } ∷ description 3 21 ConErr 2 ∷ [] }) ≡ false
+  appending_unfit = refl
+
+  abbrev waits : ℕ → Queued
+  waits tid = record { tid = tid; address = 0x12008 }
+
+  queued_alone : fits_alone (record worked { queue = waits 3 ∷ waits 2 ∷ [] }) ≡ true
+  queued_alone = refl
+
+  queued_twice_unfit : fits_alone (record worked { queue = waits 3 ∷ waits 2 ∷ waits 3 ∷ [] }) ≡ false
+  queued_twice_unfit = refl
+
+  queued_unknown_unfit : fits_alone (record worked { queue = waits 4 ∷ [] }) ≡ false
+  queued_unknown_unfit = refl
+
+  many_ids_unfit : fits_alone (record worked { next_id = 0x80000001 }) ≡ false
+  many_ids_unfit = refl
 
   -- Without its first process a run that has begun fits nothing, and a start has no record yet.
   orphaned_unfit : fits_alone (with_records (second_process ∷ []) []) ≡ false
@@ -233,7 +275,7 @@ module _ (settings : Settings) (positions : Positions) (memory : Space) (context
 
   -- The first process has ended by an illegal instruction of its first thread, and its handles are closed: of its threads no record is left.
   abbrev ended : LibOs
-  ended = with_records (record { pid = 1; handle = 11; code = Some 132; descriptors = [] } ∷ second_process ∷ []) (thread 2 2 14 17 ∷ [])
+  ended = with_records (process 1 0 11 (Some 132) [] ∷ second_process ∷ []) (thread 2 2 14 17 ∷ [])
 
   abbrev closing : Context → List ℕ → List ℕ → List ℕ → Cont
   closing next bytes handles numbers = record {
@@ -243,6 +285,7 @@ module _ (settings : Settings) (positions : Positions) (memory : Space) (context
     names = [];
     bytes = bytes;
     handles = handles;
+    later = [];
     numbers = numbers;
   }
 
@@ -280,6 +323,7 @@ module _ (settings : Settings) (positions : Positions) (memory : Space) (context
         names = [];
         bytes = [];
         handles = [];
+        later = [];
         numbers = page ∷ count ∷ [];
       }
 

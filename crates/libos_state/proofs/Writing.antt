@@ -21,7 +21,7 @@ use Rattle.abi_calls.specs.Sound.{IsSound}
 use Rattle.mono_model.specs.Machine as mono
 use Rattle.mono_model.specs.Machine.{Mono, register}
 use Rattle.mono_model.specs.Written.{nothing, and_then}
-use Rattle.mono_model.specs.Calls.{Caller, Trap, WRITE, EXIT, EFAULT, error, moved, served, sent, write_from, write_to, write_unless, write_bytes, writable, description_of}
+use Rattle.mono_model.specs.Calls.{Caller, Trap, WRITE, EFAULT, error, moved, served, sent, write_from, write_to, write_unless, write_bytes, writable, description_of, is_exit}
 use Rattle.libos_state.specs.declared.cont.Cont.{Cont}
 use Rattle.libos_state.specs.declared.cont.Stage.{Stage}
 use Rattle.libos_state.specs.declared.cont.Stage.TheVariants.{SetContext, ReadBuffer, WriteStream}
@@ -36,7 +36,7 @@ use Rattle.libos_state.specs.Pending.{asked, upcall_in, argument, number, handle
 use Rattle.libos_state.specs.Answered.{bare, goes_on, service_with_result}
 use Rattle.libos_state.specs.Meaning.{caller_in, trap_in, stream_in, stream_described, leads_to, meaning, meant_at}
 use Rattle.libos_state.specs.Named.{is_console, named_as, is_of, AConsole}
-use Rattle.libos_state.specs.Fits.{FitsRecords, FitsObjects, FitsStage, FitsTrap, is_fit_access, is_call, is_recorded, is_writable, writes, returns}
+use Rattle.libos_state.specs.Fits.{FitsRecords, FitsObjects, FitsStage, FitsTrap, is_fit_access, is_call, is_exit_call, is_recorded, is_writable, writes, returns}
 use Rattle.libos_state.proofs.Holds.{Holds}
 use Rattle.libos_state.proofs.Rows.{holds_by, by_row}
 use Rattle.libos_state.proofs.Going.{FitsRecords-with_service, FitsObjects-with_service}
@@ -101,9 +101,9 @@ writes_of os u is =
 -- A write goes on behind its call.
 pub returns-writes : (os : LibOs) (u : Upcall) → Writes os u → is_recorded os u ≡ true → returns os u ≡ true
 returns-writes os u writes recorded =
-    let other : (register u.context 17 == EXIT) ≡ false = ap (λ n. n == EXIT) (eqb-true (register u.context 17) WRITE writes.number) in
-    let stays : not (is_call u EXIT) ≡ true = λ i. not (writes.call i && other i) in
-    and_from (u.cause == 8) (not (is_call u EXIT) && is_recorded os u) writes.call (and_from (not (is_call u EXIT)) (is_recorded os u) stays recorded)
+    let other : is_exit (register u.context 17) ≡ false = ap is_exit (eqb-true (register u.context 17) WRITE writes.number) in
+    let stays : not (is_exit_call u) ≡ true = λ i. not (writes.call i && other i) in
+    and_from (u.cause == 8) (not (is_exit_call u) && is_recorded os u) writes.call (and_from (not (is_exit_call u)) (is_recorded os u) stays recorded)
 
 -- An open description has a record with an id.
 pub record NamedBy (descriptions : List Description) (d : Description) : Type 0 where
@@ -241,6 +241,7 @@ module _ (os : LibOs) (c : Cont) (v : Visible) (fits : FitsStage os v.objects c 
       names = λ keeps. refl;
       bytes = λ keeps. absurd (cc);
       handles = refl;
+      later = refl;
       numbers = refl;
     };
     names = tt;

@@ -22,10 +22,10 @@ use Rattle.libos_state.specs.declared.cont.Stage.TheVariants.{CloseHandles, Exit
 use Rattle.libos_state.specs.declared.state.Boot.{Boot}
 use Rattle.libos_state.specs.declared.state.Boot.TheVariants as boot
 use Rattle.libos_state.specs.declared.state.LibOs.{LibOs}
-use Rattle.libos_state.specs.Records.{process_named, process_with}
+use Rattle.libos_state.specs.Records.{process_named, process_with, thread_named}
 use Rattle.libos_state.specs.Pending.{upcall_in, number, program_name, arguments, runs_in, run_in}
 use Rattle.libos_state.specs.Named.{named_as, consoles, kinds_at, kept_names}
-use Rattle.libos_state.specs.Fits.{FitsRecords, FitsObjects, KeepsLists, AreNames, FitsKept, FitsMade, are_distinct, is_none, is_given, is_fit_process, is_alive, is_described, is_fit_access, is_of_start, comes_to, keeps_next, keeps_names, keeps_bytes, numbers_at, is_ended_with, ending_at}
+use Rattle.libos_state.specs.Fits.{FitsRecords, FitsObjects, KeepsLists, AreNames, FitsKept, FitsMade, are_distinct, is_none, is_given, is_fit_process, is_fit_parent, is_alive, is_described, is_fit_access, is_fit_append, LAST_ID, is_of_start, comes_to, keeps_next, keeps_names, keeps_bytes, numbers_at, is_ended_with, ending_at}
 
 -- ---- the library OS
 
@@ -40,31 +40,41 @@ fits_records os =
     && (list_all (is_fit_process os) os.processes
     && (list_all (λ n. is_alive (process_named n.pid os.processes)) os.threads
     && (list_all (λ d. is_described os d.id) os.descriptions
-    && list_all (λ d. is_fit_access d.kind d.access) os.descriptions)))))))
+    && (list_all (λ d. is_fit_access d.kind d.access) os.descriptions
+    && (list_all (λ d. is_fit_append d.kind d.append) os.descriptions
+    && (list_all (is_fit_parent os) os.processes
+    && (list_all (λ q. is_some (thread_named q.tid os.threads)) os.queue
+    && (are_distinct (map (λ q. q.tid) os.queue)
+    && nat_le os.next_id LAST_ID))))))))))))
 
 -- Process 1 has a record.
 abbrev pub has_first : LibOs → Bool
 has_first os = is_some (process_named 1 os.processes)
 
--- There is no record yet.
+-- There is no record yet, and no id was given.
 pub record HasNoRecords (os : LibOs) : Type 0 where
   pub processes : os.processes ≡ []
   pub threads : os.threads ≡ []
   pub descriptions : os.descriptions ≡ []
+  pub queue : os.queue ≡ []
+  pub next_id : os.next_id ≡ 1
 
 abbrev pub has_no_records : LibOs → Bool
-has_no_records os = is_none os.processes && (is_none os.threads && is_none os.descriptions)
+has_no_records os =
+    is_none os.processes
+    && (is_none os.threads
+    && (is_none os.descriptions
+    && (is_none os.queue
+    && os.next_id == 1)))
 
 -- A run that has begun has its first process; until then, and where there is no program, there is
--- no record, and a start that is going on gives the first id.
+-- no record.
 abbrev pub FitsProgress : LibOs → Boot → Type 0
 FitsProgress os boot.Up = has_first os ≡ true
-FitsProgress os boot.Going = HasNoRecords os × (os.next_id ≡ 1)
 FitsProgress os _ = HasNoRecords os
 
 abbrev pub fits_progress : LibOs → Boot → Bool
 fits_progress os boot.Up = has_first os
-fits_progress os boot.Going = has_no_records os && os.next_id == 1
 fits_progress os _ = has_no_records os
 
 -- A start is served exactly while it is going on, and a trap only once the run has begun.
@@ -117,7 +127,8 @@ keeps_lists c stage =
     && ((keeps_names stage || is_none c.names)
     && ((keeps_bytes stage || is_none c.bytes)
     && (has_handles stage c.handles
-    && length c.numbers == numbers_at stage)))
+    && (is_none c.later
+    && length c.numbers == numbers_at stage))))
 
 -- The test of `FitsNames`.
 abbrev pub fits_names : Cont → Bool

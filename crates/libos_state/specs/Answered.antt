@@ -1,7 +1,7 @@
 -- What a service does on a reply, and what a reply changes of the records: one row for each stage.
 -- A reply that the stage doesn't list ends the service; no host that keeps to its contract gives
 -- one.
-use Rattle.std.specs.Prelude.{ℕ, ◌+◌, ◌*◌, ◌==◌, if◌then◌else◌, List, [], ◌∷◌, ◌++◌, length, take, drop, nat_lt, nat_le}
+use Rattle.std.specs.Prelude.{ℕ, ◌+◌, ◌*◌, ◌==◌, if◌then◌else◌, List, [], ◌∷◌, ◌++◌, length, take, drop, nat_lt, nat_le, false}
 use Rattle.std.specs.declared.option.Option.{Option}
 use Rattle.std.specs.declared.option.Option.TheVariants.{None, Some}
 use Rattle.std.specs.declared.result.Result.{Result}
@@ -21,6 +21,7 @@ use Rattle.libos_state.specs.declared.notes.Description.{Description}
 use Rattle.libos_state.specs.declared.notes.DescriptorNote.{DescriptorNote}
 use Rattle.libos_state.specs.declared.notes.ProcessNote.{ProcessNote}
 use Rattle.libos_state.specs.declared.notes.ThreadNote.{ThreadNote}
+use Rattle.libos_state.specs.declared.notes.Kind.{Kind}
 use Rattle.libos_state.specs.declared.notes.Kind.TheVariants.{ConIn, ConOut, ConErr}
 use Rattle.libos_state.specs.declared.state.Boot.TheVariants.{Up, NoProgram, BadProgram}
 use Rattle.libos_state.specs.declared.state.LibOs.{LibOs}
@@ -28,7 +29,7 @@ use Rattle.libos_state.specs.declared.step.Change.{Change}
 use Rattle.libos_state.specs.declared.step.Change.TheVariants.{Same, Begins}
 use Rattle.libos_state.specs.declared.step.Step.{Step}
 use Rattle.libos_state.specs.declared.step.Step.TheVariants.{Asks, Ends, Stops}
-use Rattle.libos_state.specs.Pending.{upcall_in, handle, number, runs_in, run_in, run_piece, file_or_child}
+use Rattle.libos_state.specs.Pending.{upcall_in, handle, number, program_in, runs_in, run_in, run_piece, file_or_child}
 
 -- The service goes on with these, or has ended.
 abbrev pub goes_on : LibOs → Cont → LibOs
@@ -63,6 +64,7 @@ bare c stage = record {
   names = [];
   bytes = [];
   handles = [];
+  later = [];
   numbers = [];
 }
 
@@ -140,18 +142,38 @@ console_descriptors =
     record { number = 1; description = 2 } ∷
     record { number = 2; description = 3 } ∷ []
 
+abbrev pub console_description : ℕ → ℕ → Kind → ℕ → Description
+console_description id handle kind access = record {
+  id = id;
+  handle = handle;
+  kind = kind;
+  access = access;
+  append = false;
+  position = 0;
+}
+
 abbrev pub console_descriptions : Cont → List Description
 console_descriptions c =
-    record { id = 1; handle = handle c 0; kind = ConIn; access = 1 } ∷
-    record { id = 2; handle = handle c 1; kind = ConOut; access = 2 } ∷
-    record { id = 3; handle = handle c 2; kind = ConErr; access = 2 } ∷ []
+    console_description 1 (handle c 0) ConIn 1 ∷
+    console_description 2 (handle c 1) ConOut 2 ∷
+    console_description 3 (handle c 2) ConErr 2 ∷ []
 
+-- The break of the first process stands where the program ends.
 abbrev pub first_process : Cont → ProcessNote
-first_process c =
-    record { pid = 1; handle = file_or_child c; code = None; descriptors = console_descriptors }
+first_process c = record {
+  pid = 1;
+  parent = 0;
+  handle = file_or_child c;
+  break_start = (program_in c).end;
+  break_now = (program_in c).end;
+  handler = 0;
+  code = None;
+  descriptors = console_descriptors;
+}
 
 abbrev pub first_thread : Cont → ThreadNote
-first_thread c = record { tid = 1; pid = 1; handle = handle c 4; event = handle c 5 }
+first_thread c =
+    record { tid = 1; pid = 1; handle = handle c 4; event = handle c 5; saved = None }
 
 -- What a reply changes of the records: they begin where the first thread has become ready.
 abbrev pub change : Cont → Stage → Reply → Change

@@ -1,6 +1,6 @@
 -- When the library OS fits the objects of a world: its records by themselves, the service in
 -- progress by itself, and the objects, each of which is named once.
-use Rattle.std.specs.Prelude.{◌≡◌, ℕ, ◌+◌, ◌≤◌, ◌<◌, ◌==◌, Bool, true, false, not, ◌&&◌, ◌||◌, if◌then◌else◌, List, [], ◌∷◌, ◌++◌, map, length, take, is_some, bit_and, nat_le, nat_lt}
+use Rattle.std.specs.Prelude.{◌≡◌, ℕ, ◌+◌, ◌≤◌, ◌<◌, ◌==◌, Bool, true, false, not, ◌&&◌, ◌||◌, if◌then◌else◌, List, [], ◌∷◌, ◌++◌, map, length, take, is_some, bit_and, nat_le, nat_lt, ◌^◌}
 use Rattle.std.specs.List.{list_all, list_any}
 use Rattle.std.specs.declared.option.Option.{Option}
 use Rattle.std.specs.declared.option.Option.TheVariants.{None, Some}
@@ -14,7 +14,7 @@ use Rattle.abi_calls.specs.declared.threads.Upcall.{Upcall}
 use Rattle.abi_calls.specs.Objects.{Object, Objects, object_at, running, is_thread_of}
 use Rattle.abi_calls.specs.Processes.{is_acceptable}
 use Rattle.mono_model.specs.Machine.{register}
-use Rattle.mono_model.specs.Calls.{WRITE, EXIT, MUNMAP, MMAP, MPROTECT, moved, munmap_known, mmap_known, mprotect_known}
+use Rattle.mono_model.specs.Calls.{WRITE, MUNMAP, MMAP, MPROTECT, moved, munmap_known, mmap_known, mprotect_known, is_exit}
 use Rattle.mono_model.specs.Mapping.{MOST_PAGES, FIRST_MAPPED}
 use Rattle.elf_loader.specs.Image.{extent_of}
 use Rattle.elf_loader.specs.Refusal.{refusal}
@@ -32,7 +32,7 @@ use Rattle.libos_state.specs.declared.notes.ThreadNote.{ThreadNote}
 use Rattle.libos_state.specs.declared.state.Boot.{Boot}
 use Rattle.libos_state.specs.declared.state.Boot.TheVariants as boot
 use Rattle.libos_state.specs.declared.state.LibOs.{LibOs}
-use Rattle.libos_state.specs.Records.{process_named, process_with, thread_with, description_named, description_behind}
+use Rattle.libos_state.specs.Records.{process_named, process_with, thread_named, thread_with, description_named, description_behind}
 use Rattle.libos_state.specs.Pending.{upcall_in, handle, number, program_name, arguments, file_or_child, runs_in, run_in}
 use Rattle.libos_state.specs.Named.{Named, is_of, recorded, named_as, consoles, kinds_at, kept_names, times_named}
 
@@ -54,6 +54,12 @@ is_fit_process os n =
     && (list_all (λ d. is_some (description_named d.description os.descriptions)) n.descriptors
     && (not (is_some n.code) || is_none n.descriptors))
 
+-- A parent is another process, which has a record and came before.
+abbrev pub is_fit_parent : LibOs → ProcessNote → Bool
+is_fit_parent os n =
+    n.parent == 0
+    || (nat_lt n.parent n.pid && is_some (process_named n.parent os.processes))
+
 abbrev pub is_alive : Option ProcessNote → Bool
 is_alive None = false
 is_alive (Some n) = not (is_some n.code)
@@ -64,6 +70,12 @@ is_fit_access ConIn access = access == 1
 is_fit_access ConOut access = access == 2
 is_fit_access ConErr access = access == 2
 
+-- What is written to the console goes to no file's end.
+abbrev pub is_fit_append : Kind → Bool → Bool
+is_fit_append ConIn append = not append
+is_fit_append ConOut append = not append
+is_fit_append ConErr append = not append
+
 -- A process has the description open.
 abbrev pub is_described : LibOs → ℕ → Bool
 is_described os id =
@@ -73,7 +85,12 @@ is_described os id =
 abbrev pub is_given : LibOs → ℕ → Bool
 is_given os id = nat_le 1 id && nat_lt id os.next_id
 
--- Ids name one record each; a thread's process hasn't exited; every description has a descriptor.
+-- The greatest next id: those that are given are below it.
+abbrev pub LAST_ID : ℕ
+LAST_ID = 2 ^ 31
+
+-- Ids name one record each; a thread's process hasn't exited; every description has a descriptor;
+-- threads of the queue have a record, and stand there once.
 pub record FitsRecords (os : LibOs) : Type 0 where
   pub pids : are_distinct (map (λ n. n.pid) os.processes) ≡ true
   pub tids : are_distinct (map (λ n. n.tid) os.threads) ≡ true
@@ -84,6 +101,11 @@ pub record FitsRecords (os : LibOs) : Type 0 where
   pub threads : list_all (λ n. is_alive (process_named n.pid os.processes)) os.threads ≡ true
   pub described : list_all (λ d. is_described os d.id) os.descriptions ≡ true
   pub access : list_all (λ d. is_fit_access d.kind d.access) os.descriptions ≡ true
+  pub append : list_all (λ d. is_fit_append d.kind d.append) os.descriptions ≡ true
+  pub parents : list_all (is_fit_parent os) os.processes ≡ true
+  pub queued : list_all (λ q. is_some (thread_named q.tid os.threads)) os.queue ≡ true
+  pub waits_once : are_distinct (map (λ q. q.tid) os.queue) ≡ true
+  pub few_ids : os.next_id ≤ LAST_ID
 
 -- ---- the records and what they name
 
@@ -146,6 +168,10 @@ abbrev pub is_writable : Option Description → Bool
 is_writable None = false
 is_writable (Some d) = bit_and d.access 2 == 2
 
+-- The trap is a call that ends the process.
+abbrev pub is_exit_call : Upcall → Bool
+is_exit_call u = u.cause == 8 && is_exit (register u.context 17)
+
 -- A write of some bytes to a descriptor that is open for writing.
 abbrev pub writes : LibOs → Upcall → Bool
 writes os u =
@@ -157,7 +183,7 @@ is_recorded os u = is_some (thread_with u.thread os.threads)
 
 -- A system call that the thread goes on behind.
 abbrev pub returns : LibOs → Upcall → Bool
-returns os u = u.cause == 8 && (not (is_call u EXIT) && is_recorded os u)
+returns os u = u.cause == 8 && (not (is_exit_call u) && is_recorded os u)
 
 -- A call whose result its arguments alone don't decide, of a thread that has a record.
 abbrev pub is_undecided : LibOs → Upcall → ℕ → Option ℕ → Bool
@@ -167,8 +193,8 @@ is_undecided os u number known = is_call u number && (not (is_some known) && is_
 abbrev pub comes_to : LibOs → Upcall → Stage → Bool
 comes_to os u SetContext = returns os u
 comes_to os u Resume = returns os u
-comes_to os u CloseHandles = not (u.cause == 8) || is_call u EXIT
-comes_to os u ExitProcess = not (u.cause == 8) || is_call u EXIT
+comes_to os u CloseHandles = not (u.cause == 8) || is_exit_call u
+comes_to os u ExitProcess = not (u.cause == 8) || is_exit_call u
 comes_to os u ReadBuffer = writes os u && is_recorded os u
 comes_to os u WriteStream = writes os u && is_recorded os u
 comes_to os u AllocatePages = is_undecided os u MMAP (mmap_known u.context)
@@ -191,6 +217,7 @@ pub record FitsStart (os : LibOs) (o : Objects) (stage : Stage) : Type 0 where
   pub processes : os.processes ≡ []
   pub threads : os.threads ≡ []
   pub descriptions : os.descriptions ≡ []
+  pub queue : os.queue ≡ []
   pub current : o.lists.current ≡ None
   pub starts : is_of_start stage ≡ true
 
@@ -249,6 +276,7 @@ pub record KeepsLists (c : Cont) (stage : Stage) : Type 0 where
   pub names : keeps_names stage ≡ false → c.names ≡ []
   pub bytes : keeps_bytes stage ≡ false → c.bytes ≡ []
   pub handles : HasHandles stage c.handles
+  pub later : c.later ≡ []
   pub numbers : length c.numbers ≡ numbers_at stage
 
 -- A name has 1 to 80 bytes, and there are at most 16 arguments of at most 80 bytes each.
@@ -403,6 +431,8 @@ pub record FitsNone (os : LibOs) (o : Objects) : Type 0 where
   pub processes : os.processes ≡ []
   pub threads : os.threads ≡ []
   pub descriptions : os.descriptions ≡ []
+  pub queue : os.queue ≡ []
+  pub next_id : os.next_id ≡ 1
   pub handles : List ℕ
   pub all : length handles ≡ length consoles
   pub objects : FitsObjects os o (named_as handles consoles) None

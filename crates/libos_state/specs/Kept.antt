@@ -3,7 +3,7 @@
 use Rattle.std.specs.Prelude.{◌≤◌, ◌<◌, IfSome, length}
 use Rattle.libos_state.specs.declared.cont.Cont.{Cont}
 use Rattle.libos_state.specs.declared.cont.Stage.{Stage}
-use Rattle.libos_state.specs.declared.cont.Stage.TheVariants.{AllocatePages, ProtectPages, OpenConsole, CreateProcess, AllocateRun, WriteRun, ProtectRun, WriteBlock, CreateThread}
+use Rattle.libos_state.specs.declared.cont.Stage.TheVariants.{AllocatePages, ProtectPages, OpenConsole, CreateProcess, AllocateRun, WriteRun, ProtectRun, WriteBlock, CreateThread, StartThread}
 use Rattle.libos_state.specs.declared.state.LibOs.{LibOs}
 use Rattle.libos_state.specs.Pending.{argument}
 use Rattle.libos_state.specs.Fits.{FitsNames, KeepsPages, KeepsProgram, KeepsRun, KeepsPlace}
@@ -22,6 +22,7 @@ KeptAt c WriteRun = KeepsPlace c
 KeptAt c ProtectRun = KeepsRun c
 KeptAt c WriteBlock = FitsNames c
 KeptAt c CreateThread = KeepsProgram c × FitsNames c
+KeptAt c StartThread = KeepsProgram c
 KeptAt c _ = Unit {0}
 
 -- The service in progress keeps what its next call needs.

@@ -72,12 +72,12 @@ child_memory w c = memory_of_object (object_at w.objects (file_or_child c))
 abbrev pub child_context : Visible → Cont → Context
 child_context w c = context_of (object_at w.objects (handle c 4))
 
--- The run begins with this memory, and with these registers.
-abbrev pub begins : Visible → Space → Context → Started
-begins w memory context = Runs (begun (unstarted w) memory context)
+-- The run of the program begins with this memory, and with these registers.
+abbrev pub begins : Visible → Cont → Space → Context → Started
+begins w c memory context = Runs (begun (unstarted w) memory (program_in c).end context)
 
 abbrev pub begins_with : Visible → Cont → Space → Started
-begins_with w c memory = begins w memory (start_context (program_in c) (arguments c))
+begins_with w c memory = begins w c memory (start_context (program_in c) (arguments c))
 
 -- The run whose bytes are written gets its rights, and those behind it are loaded.
 abbrev pub with_runs_behind : Cont → Space → Space
@@ -139,8 +139,8 @@ meant_at os w c AllocateStack =
 meant_at os w c WriteBlock =
     settles (begins_with w c (with_block (child_memory w c) (arguments c)))
 meant_at os w c CreateThread = settles (begins_with w c (child_memory w c))
-meant_at os w c CreateEvent = settles (begins w (child_memory w c) (child_context w c))
-meant_at os w c StartThread = settles (begins w (child_memory w c) (child_context w c))
+meant_at os w c CreateEvent = settles (begins w c (child_memory w c) (child_context w c))
+meant_at os w c StartThread = settles (begins w c (child_memory w c) (child_context w c))
 
 -- With nothing in progress; a start doesn't go on then.
 abbrev pub meant_settled : LibOs → Visible → Boot → Started

@@ -22,6 +22,7 @@ use Rattle.libos_state.specs.declared.notes.Kind.TheVariants.{ConIn, ConOut, Con
 use Rattle.libos_state.specs.declared.notes.Description.{Description}
 use Rattle.libos_state.specs.declared.notes.DescriptorNote.{DescriptorNote}
 use Rattle.libos_state.specs.declared.notes.ProcessNote.{ProcessNote}
+use Rattle.libos_state.specs.declared.notes.Queued.{Queued}
 use Rattle.libos_state.specs.declared.notes.ThreadNote.{ThreadNote}
 use Rattle.libos_state.specs.declared.state.LibOs.{LibOs}
 
@@ -75,18 +76,25 @@ description_behind os process fd = described_in os fd (process_with process os.p
 abbrev pub memory_of_object : Option Object → Space
 memory_of_object object = unwrap_or (running object) empty
 
--- What the library OS knows of a process and of its object: one that has exited has its code alone.
-abbrev pub process_if : Option ℕ → Space → List DescriptorNote → mono.Process
-process_if None memory descriptors = record {
+-- A process with this memory, before it exits.
+abbrev pub process_running : ProcessNote → Space → mono.Process
+process_running n memory = record {
   memory = memory;
+  parent = n.parent;
+  break_start = n.break_start;
+  break_now = n.break_now;
+  handler = n.handler;
   code = None;
-  descriptors = from_entries (map (λ d. (d.number, d.description)) descriptors);
+  descriptors = from_entries (map (λ d. (d.number, d.description)) n.descriptors);
 }
-process_if (Some code) memory descriptors = mono.exited code
+
+-- What the library OS knows of a process and of its object, by whether it has exited.
+abbrev pub process_if : ProcessNote → Space → Option ℕ → mono.Process
+process_if n memory None = process_running n memory
+process_if n memory (Some code) = mono.exited (process_running n memory) code
 
 abbrev pub process_seen : Live → ProcessNote → mono.Process
-process_seen live n =
-    process_if n.code (memory_of_object (get {R = nat_cmp} live n.handle)) n.descriptors
+process_seen live n = process_if n (memory_of_object (get {R = nat_cmp} live n.handle)) n.code
 
 abbrev pub no_context : Context
 no_context = record { pc = 0; x = replicate 31 0 }
@@ -107,10 +115,19 @@ thread_seen live n = record {
   process = n.pid;
   context = context_of (get {R = nat_cmp} live n.handle);
   woken = is_set (get {R = nat_cmp} live n.event);
+  saved = n.saved;
 }
 
 abbrev pub description_seen : Description → mono.Description
-description_seen d = record { stream = stream_of_kind d.kind; access = d.access }
+description_seen d = record {
+  stream = stream_of_kind d.kind;
+  access = d.access;
+  append = d.append;
+  position = d.position;
+}
+
+abbrev pub queued_seen : Queued → mono.Queued
+queued_seen q = record { thread = q.tid; address = q.address }
 
 abbrev pub processes_of : List ProcessNote → Live → FinMap nat_cmp mono.Process
 processes_of notes live = from_entries (map (λ n. (n.pid, process_seen live n)) notes)
@@ -188,6 +205,7 @@ base os w = record {
   threads = threads_of os.threads w.objects.live;
   descriptions = descriptions_of os.descriptions;
   lists = lists_of os w.objects.lists;
+  queue = map queued_seen os.queue;
   rules = w.rules;
   files = w.contents.files;
   input = w.contents.input;

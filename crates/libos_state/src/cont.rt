@@ -81,6 +81,8 @@ pub struct Cont {
     pub bytes: Items<u8>,
     /// Handles of objects that the service made or is to close.
     pub handles: Items<u64>,
+    /// Handles of other processes, to be closed behind the one that ends. No stage keeps any yet.
+    pub later: Items<u64>,
     /// An exit code, an offset, a length, a page and a count of pages, the number of a run, or that and how far it is
     /// written.
     pub numbers: Items<u64>,

@@ -10,6 +10,6 @@ mod step;
 
 pub use cont::{Cont, Event, Stage};
 pub use laws::{file_by_rules, fits_is_cut, tests_decide};
-pub use notes::{Description, DescriptorNote, Kind, ProcessNote, ThreadNote};
+pub use notes::{Description, DescriptorNote, Kind, ProcessNote, Queued, ThreadNote};
 pub use state::{Boot, LibOs};
 pub use step::{Change, Step};

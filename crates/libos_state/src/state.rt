@@ -1,5 +1,5 @@
 use crate::cont::Cont;
-use crate::notes::{Description, ProcessNote, ThreadNote};
+use crate::notes::{Description, ProcessNote, Queued, ThreadNote};
 use abi_calls::Settings;
 use bas_items::Items;
 use elf_loader::ElfError;
@@ -27,6 +27,8 @@ pub struct LibOs {
     pub processes: Items<ProcessNote>,
     pub threads: Items<ThreadNote>,
     pub descriptions: Items<Description>,
+    /// The threads that wait until they are woken, in the order in which they came.
+    pub queue: Items<Queued>,
     /// The service in progress.
     pub cont: Option<Cont>,
 }

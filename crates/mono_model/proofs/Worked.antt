@@ -8,8 +8,8 @@ use Rattle.guest_space.specs.Space.{Space, Frame, with_run, without_run}
 use Rattle.guest_space.specs.Run.{first_missing, if_missing}
 use Rattle.guest_space.proofs.FirstSome.{first_some-here}
 use Rattle.bas_names.specs.declared.StreamName.TheVariants.{ConOut, ConIn}
-use Rattle.mono_model.specs.Machine.{Mono, returned, register}
-use Rattle.mono_model.specs.Calls.{Caller, error, EBADF, EINVAL, ENOMEM, writable, moved, fault_code, finished, finished_with, memory_at, munmap, munmap_known, mprotect_known, mmap, mmap_known, map_pages}
+use Rattle.mono_model.specs.Machine.{Mono, returned, register, Process, process_at}
+use Rattle.mono_model.specs.Calls.{Caller, error, EBADF, EINVAL, ENOMEM, writable, moved, fault_code, finished, finished_with, memory_at, munmap, munmap_known, mprotect_known, mmap, mmap_known, map_pages, is_exit, parent_in, known_result}
 use Rattle.mono_model.specs.Mapping.{HasNoPages, is_free, lowest_free, pages_for}
 use Rattle.mono_model.proofs.Mapping.{is_free-decides, lowest_free-here, lowest_free-next}
 use Rattle.mono_model.specs.Starting.{stack_pointer, argument_block, block_size}
@@ -42,14 +42,44 @@ result : register (returned (record { pc = 0x10090; x = replicate 31 0 }) 3) 10 
 result = refl
 
 -- what can be written, and how much at once
-output_written : writable (Some (record { stream = ConOut; access = 2 })) ≡ Some ConOut
+output_written : writable (Some (record { stream = ConOut; access = 2; append = false; position = 0 })) ≡ Some ConOut
 output_written = refl
 
-input_refused : writable (Some (record { stream = ConIn; access = 1 })) ≡ None
+input_refused : writable (Some (record { stream = ConIn; access = 1; append = false; position = 0 })) ≡ None
 input_refused = refl
 
 cut : moved 65537 ≡ 65536
 cut = refl
+
+-- both calls of an exit end the process, and a write doesn't
+exits : is_exit 93 ≡ true
+exits = refl
+
+exits_group : is_exit 94 ≡ true
+exits_group = refl
+
+goes_on : is_exit 64 ≡ false
+goes_on = refl
+
+-- what thread 5 of process 3, whose parent is process 1, is told
+module _ (m : Mono) (process : Process) (there : process_at m 3 ≡ Some (record process { parent = 1 })) (context : Context) where
+  abbrev caller : Caller
+  caller = record { thread = 5; process = 3; context = context }
+
+  yields : known_result m caller 124 ≡ 0
+  yields = refl
+
+  own_process : known_result m caller 172 ≡ 3
+  own_process = refl
+
+  own_parent : known_result m caller 173 ≡ 1
+  own_parent = ap parent_in there
+
+  own_thread : known_result m caller 178 ≡ 5
+  own_thread = refl
+
+  no_call : known_result m caller 179 ≡ 18446744073709551578
+  no_call = refl
 
 -- an illegal word, and an access
 illegal : fault_code 2 ≡ 132

@@ -4,7 +4,7 @@
 use Rattle.std.specs.Prelude.{ℕ, ◌+◌, ◌-◌, ◌*◌, ◌/◌, ◌%◌, ◌^◌, ◌==◌, Bool, false, not, ◌&&◌, ◌||◌, nat_lt, if◌then◌else◌, List, [], map, filter, length, min, bit_and}
 use Rattle.std.specs.List.{list_any}
 use Rattle.std.specs.Ordering.{nat_cmp}
-use Rattle.std.specs.FinMap.{get, insert, empty, entries, values, retain_keys, len}
+use Rattle.std.specs.FinMap.{get, insert, empty, entries, values, retain_keys, len, FinMap}
 use Rattle.std.specs.declared.option.Option.{Option}
 use Rattle.std.specs.declared.option.Option.TheVariants.{None, Some}
 use Rattle.rv_core.specs.declared.context.Context.{Context}
@@ -23,6 +23,21 @@ WRITE = 64
 
 abbrev pub EXIT : ℕ
 EXIT = 93
+
+abbrev pub EXIT_GROUP : ℕ
+EXIT_GROUP = 94
+
+abbrev pub SCHED_YIELD : ℕ
+SCHED_YIELD = 124
+
+abbrev pub GETPID : ℕ
+GETPID = 172
+
+abbrev pub GETPPID : ℕ
+GETPPID = 173
+
+abbrev pub GETTID : ℕ
+GETTID = 178
 
 abbrev pub MUNMAP : ℕ
 MUNMAP = 215
@@ -230,35 +245,62 @@ target_left m p target = if goes_with m p target then Gone else target
 abbrev pub waiter_left : Mono → ℕ → Waiter → Waiter
 waiter_left m p w = record w { targets = map (target_left m p) w.targets }
 
--- A process ends: its threads end, it keeps its code alone, and the descriptions that it alone had
--- open are closed.
+-- Process p exits, if there is one.
+abbrev pub with_exited
+    : FinMap nat_cmp Process → ℕ → ℕ → Option Process → FinMap nat_cmp Process
+with_exited processes p code None = processes
+with_exited processes p code (Some process) = insert processes p (exited process code)
+
+-- A process ends: its threads end, it keeps its record but for its memory and its descriptors, and
+-- the descriptions that it alone had open are closed. Its children keep its number as their
+-- parent's.
 abbrev pub ended : Mono → ℕ → ℕ → Mono
 ended m p code = record m {
-  processes = insert m.processes p (exited code);
+  processes = with_exited m.processes p code (process_at m p);
   threads = retain_keys m.threads (λ t. not (is_thread_in m p t));
   descriptions = retain_keys m.descriptions (is_open_without m p);
   lists = record m.lists {
     ready = filter (λ t. not (is_thread_in m p t)) m.lists.ready;
     waiting = map (waiter_left m p) (filter (λ w. not (is_thread_in m p w.thread)) m.lists.waiting);
   };
+  queue = filter (λ q. not (is_thread_in m p q.thread)) m.queue;
 }
 
--- exit(c) ends the process, with c modulo 256.
+-- The calls that end the process.
+abbrev pub is_exit : ℕ → Bool
+is_exit number = number == EXIT || number == EXIT_GROUP
+
+-- exit(c) and exit_group(c) end the process, with c modulo 256.
 abbrev pub exit : Mono → Caller → Mono
 exit m who = ended m who.process (register who.context 10 % 256)
 
--- The calls on a process's pages; any other isn't there.
+-- The parent of a process; 0 where it has none.
+abbrev pub parent_in : Option Process → ℕ
+parent_in None = 0
+parent_in (Some process) = process.parent
+
+-- The result of a call that changes nothing else: sched_yield gives 0, getpid the process, getppid
+-- its parent, gettid the thread. Any other number is no system call: ENOSYS.
+abbrev pub known_result : Mono → Caller → ℕ → ℕ
+known_result m who number =
+    if number == SCHED_YIELD then 0
+    else (if number == GETPID then who.process
+    else (if number == GETPPID then parent_in (process_at m who.process)
+    else (if number == GETTID then who.thread
+    else error ENOSYS)))
+
+-- The calls on a process's pages, and those whose result is known.
 abbrev pub memory_call : Mono → Caller → ℕ → Mono
 memory_call m who number =
     if number == MUNMAP then munmap m who
     else (if number == MMAP then mmap m who
     else (if number == MPROTECT then mprotect m who
-    else finished m who (error ENOSYS)))
+    else finished m who (known_result m who number)))
 
 abbrev pub system_call : Mono → Caller → ℕ → Served
 system_call m who number =
     if number == WRITE then write m who
-    else (if number == EXIT then silently (exit m who)
+    else (if is_exit number then silently (exit m who)
     else silently (memory_call m who number))
 
 -- The exit code of a process that a fault ends, by the cause: 132 an illegal instruction, 133 a

@@ -15,23 +15,33 @@ use Rattle.turn_sched.specs.Lists.{Lists, with_ready}
 use Rattle.turn_sched.specs.declared.settings.Positions.{Positions}
 use Rattle.turn_sched.specs.declared.settings.Settings.{Settings}
 
--- An open description: what it is open on, and its access (1 to read, 2 to write, added up).
+-- An open description: what it is open on, its access (1 to read, 2 to write, added up), whether
+-- each write goes to the end of its file, and its position in it.
 pub record Description : Type 0 where
   pub stream : StreamName
   pub access : ℕ
+  pub append : Bool
+  pub position : ℕ
 
--- A process: its memory, its exit code once it has exited, and its descriptors, each naming a
--- description.
+-- A process: its memory, its parent and its handler of faults (0 where it has none), where its
+-- break stood at first and where it stands, its exit code once it has exited, and its descriptors,
+-- each naming a description.
 pub record Process : Type 0 where
   pub memory : Space
+  pub parent : ℕ
+  pub break_start : ℕ
+  pub break_now : ℕ
+  pub handler : ℕ
   pub code : Option ℕ
   pub descriptors : FinMap nat_cmp ℕ
 
--- A thread of a process, with its registers, and whether it was woken.
+-- A thread of a process, with its registers, whether it was woken, and the registers at the fault
+-- that a handler is handling.
 pub record Thread : Type 0 where
   pub process : ℕ
   pub context : Context
   pub woken : Bool
+  pub saved : Option Context
 
 -- What a thread can wait for: an open description, the exit of a process, that a thread is woken,
 -- or what has gone since.
@@ -47,12 +57,19 @@ pub record Waiter : Type 0 where
   pub targets : List Target
   pub deadline : Option ℕ
 
--- Threads are ready or wait, or stand still; none is kept as suspended or current.
+-- A thread that is to be woken at an address.
+pub record Queued : Type 0 where
+  pub thread : ℕ
+  pub address : ℕ
+
+-- Threads are ready or wait, or stand still; none is kept as suspended or current. The queue has
+-- those that are to be woken, in the order in which they came.
 pub record Mono : Type 0 where
   pub processes : FinMap nat_cmp Process
   pub threads : FinMap nat_cmp Thread
   pub descriptions : FinMap nat_cmp Description
   pub lists : Lists Waiter
+  pub queue : List Queued
   pub rules : List (List Rule)
   pub files : Files
   pub input : List ℕ
@@ -85,14 +102,19 @@ code_in (Some process) = process.code
 abbrev pub exit_code : Mono → ℕ → Option ℕ
 exit_code m p = code_in (process_at m p)
 
--- A process that has exited has its code alone.
-abbrev pub exited : ℕ → Process
-exited code = record { memory = empty; code = Some code; descriptors = empty }
+-- A process that has exited has its code, no memory and no descriptors; all else is kept.
+abbrev pub exited : Process → ℕ → Process
+exited process code = record process { memory = empty; code = Some code; descriptors = empty }
 
 -- Whether a thread was woken.
 abbrev pub is_woken : Option Thread → Bool
 is_woken None = false
 is_woken (Some thread) = thread.woken
+
+-- The registers at the fault that a handler is handling.
+abbrev pub saved_in : Option Thread → Option Context
+saved_in None = None
+saved_in (Some thread) = thread.saved
 
 -- A thread of a process.
 abbrev pub is_of_process : ℕ → Option Thread → Bool
@@ -114,10 +136,14 @@ returned cx result = record { pc = (cx.pc + 4) % 2 ^ 64; x = slice_set cx.x 9 re
 abbrev pub made_ready : Mono → ℕ → Mono
 made_ready m t = record m { lists = with_ready m.lists t }
 
--- A thread of process p with these registers; it stays woken if it was.
+-- A thread of process p with these registers; it stays woken if it was, and in its handler.
 abbrev pub with_registers : Context → Option Thread → ℕ → Thread
-with_registers context thread p =
-    record { process = p; context = context; woken = is_woken thread }
+with_registers context thread p = record {
+  process = p;
+  context = context;
+  woken = is_woken thread;
+  saved = saved_in thread;
+}
 
 abbrev pub with_context : Mono → ℕ → ℕ → Context → Mono
 with_context m t p context = with_thread m t (with_registers context (thread_at m t) p)

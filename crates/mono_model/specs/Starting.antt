@@ -18,7 +18,7 @@ use Rattle.bas_names.specs.declared.StreamName.TheVariants.{ConIn, ConOut, ConEr
 use Rattle.turn_sched.specs.declared.settings.Positions.{Positions}
 use Rattle.turn_sched.specs.declared.settings.Settings.{Settings}
 use Rattle.mono_model.specs.Readable.{Readable}
-use Rattle.mono_model.specs.Machine.{Mono, Description}
+use Rattle.mono_model.specs.Machine.{Mono, Description, Process}
 use Rattle.elf_loader.specs.declared.ElfError.{ElfError}
 use Rattle.elf_loader.specs.declared.Program.{Program}
 use Rattle.elf_loader.specs.declared.Run.{Run}
@@ -46,6 +46,7 @@ blank_under rules settings positions c = record {
   threads = empty;
   descriptions = empty;
   lists = no_threads;
+  queue = [];
   rules = rules;
   files = c.files;
   input = c.input;
@@ -140,32 +141,46 @@ console_descriptors = insert (insert (insert empty 2 3) 1 2) 0 1
 abbrev pub console_descriptions : FinMap nat_cmp Description
 console_descriptions =
     insert (insert (insert empty
-    3 (record { stream = ConErr; access = 2 }))
-    2 (record { stream = ConOut; access = 2 }))
-    1 (record { stream = ConIn; access = 1 })
+    3 (record { stream = ConErr; access = 2; append = false; position = 0 }))
+    2 (record { stream = ConOut; access = 2; append = false; position = 0 }))
+    1 (record { stream = ConIn; access = 1; append = false; position = 0 })
+
+-- A process that begins has no parent and no handler, and its break stands where its program ends.
+abbrev pub new_process : Space → ℕ → FinMap nat_cmp ℕ → Process
+new_process memory end descriptors = record {
+  memory = memory;
+  parent = 0;
+  break_start = end;
+  break_now = end;
+  handler = 0;
+  code = None;
+  descriptors = descriptors;
+}
 
 -- A process begins with one thread, which becomes ready; both get the next id.
-abbrev pub with_child : Mono → Space → Context → FinMap nat_cmp ℕ → Mono
-with_child m memory context descriptors = record m {
-  processes =
-      insert m.processes m.next_id
-      (record { memory = memory; code = None; descriptors = descriptors });
+abbrev pub with_child : Mono → Process → Context → Mono
+with_child m process context = record m {
+  processes = insert m.processes m.next_id process;
   threads =
       insert m.threads m.next_id
-      (record { process = m.next_id; context = context; woken = false });
+      (record { process = m.next_id; context = context; woken = false; saved = None });
   lists = with_ready m.lists m.next_id;
   next_id = m.next_id + 1;
 }
 
--- The first process begins, with the console open.
-abbrev pub begun : Mono → Space → Context → Mono
-begun m memory context =
-    record (with_child m memory context console_descriptors) { descriptions = console_descriptions }
+-- The first process begins, with the console open: its memory, where its program ends, and the
+-- registers of its thread.
+abbrev pub begun : Mono → Space → ℕ → Context → Mono
+begun m memory end context =
+    record (with_child m (new_process memory end console_descriptors) context) {
+      descriptions = console_descriptions;
+    }
 
 abbrev pub begun_from : Mono → List (List ℕ) → Result Program ElfError → Started
 begun_from m args (Err cause) = BadProgram cause
 begun_from m args (Ok program) =
-    Runs (begun m (stacked (loaded empty program.runs) args) (start_context program args))
+    let memory = stacked (loaded empty program.runs) args in
+    Runs (begun m memory program.end (start_context program args))
 
 -- The file's bytes are the program.
 abbrev pub started_with : Mono → List (List ℕ) → List ℕ → Started
