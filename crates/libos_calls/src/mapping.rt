@@ -153,7 +153,14 @@ pub fn memory_service(alloc: Global, upcall: Upcall) -> Result<Cont, AllocError>
         }
         MMAP => {
             let known = mmap_known(&context);
-            on_pages(alloc, upcall, known, Stage::AllocatePages, FIRST_MAPPED, count)
+            on_pages(
+                alloc,
+                upcall,
+                known,
+                Stage::AllocatePages,
+                FIRST_MAPPED,
+                count,
+            )
         }
         MPROTECT => {
             let known = mprotect_known(&context);
@@ -164,8 +171,9 @@ pub fn memory_service(alloc: Global, upcall: Upcall) -> Result<Cont, AllocError>
 }
 
 pub fn allocate_pages(cont: &Cont) -> Call
-    requires { HasRights cont.now }
-    ensures { (os : LibOs) → result ≡ pending.asked os cont.now Stage.AllocatePages }
+    requires stage { cont.now.stage ≡ Stage.AllocatePages }
+    requires rights { HasRights cont.now }
+    ensures { (os : LibOs) → result ≡ pending.asked os cont.now cont.now.stage }
 {
     let upcall = upcall_of(&cont.event);
     Call::MemoryAllocate {
@@ -177,7 +185,8 @@ pub fn allocate_pages(cont: &Cont) -> Call
 }
 
 pub fn free_pages(cont: &Cont) -> Call
-    ensures { (os : LibOs) → result ≡ pending.asked os cont.now Stage.FreePages }
+    requires { cont.now.stage ≡ Stage.FreePages }
+    ensures { (os : LibOs) → result ≡ pending.asked os cont.now cont.now.stage }
 {
     Call::MemoryFree {
         process: upcall_of(&cont.event).process,
@@ -187,8 +196,9 @@ pub fn free_pages(cont: &Cont) -> Call
 }
 
 pub fn protect_pages(cont: &Cont) -> Call
-    requires { HasRights cont.now }
-    ensures { (os : LibOs) → result ≡ pending.asked os cont.now Stage.ProtectPages }
+    requires stage { cont.now.stage ≡ Stage.ProtectPages }
+    requires rights { HasRights cont.now }
+    ensures { (os : LibOs) → result ≡ pending.asked os cont.now cont.now.stage }
 {
     let upcall = upcall_of(&cont.event);
     Call::MemoryProtect {
