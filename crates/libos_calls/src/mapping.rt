@@ -170,8 +170,9 @@ pub fn memory_service(alloc: Global, upcall: Upcall, known: u64) -> Result<Cont,
 }
 
 pub fn allocate_pages(cont: &Cont) -> Call
-    requires { HasRights cont.now }
-    ensures { (os : LibOs) → result ≡ pending.asked os cont.now Stage.AllocatePages }
+    requires stage { cont.now.stage ≡ Stage.AllocatePages }
+    requires rights { HasRights cont.now }
+    ensures { (os : LibOs) → result ≡ pending.asked os cont.now cont.now.stage }
 {
     let upcall = upcall_of(&cont.event);
     Call::MemoryAllocate {
@@ -183,7 +184,8 @@ pub fn allocate_pages(cont: &Cont) -> Call
 }
 
 pub fn free_pages(cont: &Cont) -> Call
-    ensures { (os : LibOs) → result ≡ pending.asked os cont.now Stage.FreePages }
+    requires { cont.now.stage ≡ Stage.FreePages }
+    ensures { (os : LibOs) → result ≡ pending.asked os cont.now cont.now.stage }
 {
     Call::MemoryFree {
         process: upcall_of(&cont.event).process,
@@ -193,8 +195,9 @@ pub fn free_pages(cont: &Cont) -> Call
 }
 
 pub fn protect_pages(cont: &Cont) -> Call
-    requires { HasRights cont.now }
-    ensures { (os : LibOs) → result ≡ pending.asked os cont.now Stage.ProtectPages }
+    requires stage { cont.now.stage ≡ Stage.ProtectPages }
+    requires rights { HasRights cont.now }
+    ensures { (os : LibOs) → result ≡ pending.asked os cont.now cont.now.stage }
 {
     let upcall = upcall_of(&cont.event);
     Call::MemoryProtect {
