@@ -34,10 +34,10 @@ use Rattle.elf_loader.proofs.MemoryBytes.{byte_below-more, byte_below-uncovered,
 use Rattle.guest_space.specs.Regions.{merged}
 use Rattle.mono_model.specs.Readable.{Readable}
 use Rattle.mono_model.specs.Written.{nothing}
-use Rattle.mono_model.specs.Machine.{Mono, Process, Thread, Description, process_at, thread_at, with_process, with_thread, with_registers, exit_code, code_in, exited}
-use Rattle.mono_model.specs.Calls.{Caller, Served, silently, served, finished, ended, with_exited, description_of, described_in, described_by, writable, write_to, write_unless, memory_in}
-use Rattle.mono_model.specs.Starting.{argument_block, Runs, blank, new_process, begun, begun_from, started_if, boot, console_descriptors, console_descriptions}
-use Rattle.mono_model.specs.Turns.{Ending, Exited, ends_as, behind, with_pick, with_memory_in, with_run_of, after_run, run_thread, turn_of, run_of}
+use Rattle.mono_model.specs.Machine.{Mono, Process, Thread, Description, process_at, thread_at, with_memory_in, with_process, with_thread, with_registers, exit_code, code_in, exited}
+use Rattle.mono_model.specs.Calls.{Caller, Served, silently, served, finished, ended, description_of, described_in, described_by, writable, write_to, write_unless, memory_in, with_exited}
+use Rattle.mono_model.specs.Starting.{argument_block, Runs, blank, begun, begun_from, started_if, boot, console_descriptors, console_descriptions, new_process}
+use Rattle.mono_model.specs.Turns.{Ending, Exited, ends_as, behind, with_pick, with_run_of, after_run, run_thread, turn_of, run_of}
 use Rattle.mono_model.proofs.RunLaws.{run_of-exited, run_of-turn}
 use Rattle.bascule_top.specs.Commands.{TURNS, start_settings, start_job}
 use Rattle.bascule_top.specs.Hello.{hello, hello_name, hello_file, hello_text, SaysHello}

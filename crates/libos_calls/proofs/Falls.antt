@@ -8,16 +8,18 @@ use Rattle.std.proofs.Common.{refl, arith, lit<, ltb-true, leb-false, length-app
 use Rattle.std.proofs.lemmas.Bool.{eqb-false}
 use Rattle.std.proofs.lemmas.List.{length_push}
 use Rattle.abi_calls.specs.declared.reply.Reply.{Reply}
-use Rattle.abi_calls.specs.declared.reply.Reply.TheVariants.{Done, Handle, Bytes, Count, Length, BadAddress, NoAccess}
+use Rattle.abi_calls.specs.declared.reply.Reply.TheVariants.{Done, Handle, Bytes, Count, Length, Exists, BadAddress, NoAccess, NoRoom}
+use Rattle.mono_model.specs.Calls.{ENOMEM, EINVAL, error}
+use Rattle.mono_model.specs.Starting.{STACK_PAGE}
 use Rattle.elf_loader.specs.declared.Program.{Program}
 use Rattle.elf_loader.specs.declared.ElfError.{ElfError}
 use Rattle.elf_loader.specs.Image.{loaded, page_count}
 use Rattle.libos_state.specs.declared.cont.Cont.{Cont}
 use Rattle.libos_state.specs.declared.cont.Stage.{Stage}
-use Rattle.libos_state.specs.declared.cont.Stage.TheVariants.{SetContext, CloseHandles, ReadBuffer, WriteStream, Configure, OpenConsole, OpenProgram, ProgramLength, ReadProgram, CloseProgram, CreateProcess, AllocateRun, WriteRun, ProtectRun, AllocateStack, WriteBlock, CreateThread, CreateEvent, StartThread}
+use Rattle.libos_state.specs.declared.cont.Stage.TheVariants.{SetContext, CloseHandles, ReadBuffer, WriteStream, AllocatePages, FreePages, ProtectPages, Configure, OpenConsole, OpenProgram, ProgramLength, ReadProgram, CloseProgram, CreateProcess, AllocateRun, WriteRun, ProtectRun, AllocateStack, WriteBlock, CreateThread, CreateEvent, StartThread}
 use Rattle.libos_state.specs.declared.state.LibOs.{LibOs}
 use Rattle.libos_state.specs.Pending.{number, runs_in, run_in, run_piece}
-use Rattle.libos_state.specs.Answered.{starting, with_step, service_closing, load_step, answered_at, answered, answered_in}
+use Rattle.libos_state.specs.Answered.{bare, starting, with_step, service_with_result, service_closing, changed_step, load_step, answered_at, answered, answered_in}
 use Rattle.libos_state.specs.Kept.{KeptAt, IsKept}
 use Rattle.libos_state.proofs.Programs.{few_runs, lies_behind}
 use Rattle.libos_calls.proofs.Pieces.{length-run_piece}
@@ -27,6 +29,17 @@ closes_falls : (c : Cont) (handles : List ℕ) → left_of (Some (service_closin
 closes_falls c [] = omega arith
 closes_falls c (h ∷ []) = omega arith
 closes_falls c (h ∷ k ∷ handles) = omega arith
+
+-- The run is looked for from a higher page on.
+mapping_falls : (c : Cont) (page count : ℕ) (below : Bool) → 1 ≤ count → page + count ≤ STACK_PAGE →
+    left_of (Some (if below then record (bare c AllocatePages) { numbers = (page + 1) ∷ count ∷ [] } else service_with_result c (error ENOMEM))) < weighed 0 0 2 (STACK_PAGE - page) + 1
+mapping_falls c page count true some there = omega arith
+mapping_falls c page count false some there = omega arith
+
+changed_falls : (os : LibOs) (c : Cont) (refused : ℕ) (r : Reply) → calls_left (with_step os (changed_step c refused r)) < weighed 0 0 2 0 + 1
+changed_falls os c refused Done = lit< tt
+changed_falls os c refused BadAddress = lit< tt
+changed_falls os c refused r = omega arith
 
 opened_falls : (c : Cont) (handles : List ℕ) (h : ℕ) (all : Bool) → length handles < 3 →
     left_of (Some (starting c (if all then OpenProgram else OpenConsole) [] (handles ++ h ∷ []) [])) < weighed 2 0 5 (3 - length handles) + 1
@@ -83,6 +96,11 @@ falls_at os c ReadBuffer (Bytes bytes) kept small = lit< tt
 falls_at os c ReadBuffer BadAddress kept small = lit< tt
 falls_at os c ReadBuffer NoAccess kept small = lit< tt
 falls_at os c WriteStream (Count n) kept small = lit< tt
+falls_at os c AllocatePages Done kept small = omega arith
+falls_at os c AllocatePages Exists kept small = mapping_falls c (number c 0) (number c 1) (nat_le (number c 0 + 1 + number c 1) STACK_PAGE) kept.0.some kept.0.below
+falls_at os c AllocatePages NoRoom kept small = omega arith
+falls_at os c FreePages r kept small = changed_falls os c EINVAL r
+falls_at os c ProtectPages r kept small = changed_falls os c ENOMEM r
 falls_at os c Configure Done kept small = lit< tt
 falls_at os c OpenConsole (Handle h) kept small = opened_falls c c.handles h (length (c.handles ++ h ∷ []) == 3) kept
 falls_at os c OpenProgram (Handle h) kept small = lit< tt

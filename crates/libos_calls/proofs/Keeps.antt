@@ -2,15 +2,30 @@
 use Rattle.std.specs.Prelude.{IfSome}
 use Rattle.std.specs.declared.option.Option.{Option}
 use Rattle.std.specs.declared.option.Option.TheVariants.{None, Some}
+use Rattle.std.proofs.Common.{refl}
 use Rattle.abi_calls.specs.Objects.{Objects}
+use Rattle.mono_model.specs.Calls.{MMAP, MPROTECT, mmap_known, mprotect_known}
 use Rattle.libos_state.specs.declared.cont.Cont.{Cont}
 use Rattle.libos_state.specs.declared.cont.Stage.{Stage}
-use Rattle.libos_state.specs.declared.cont.Stage.TheVariants.{OpenConsole, CreateProcess, AllocateRun, WriteRun, ProtectRun, WriteBlock, CreateThread, StartThread}
+use Rattle.libos_state.specs.declared.cont.Stage.TheVariants.{AllocatePages, ProtectPages, OpenConsole, CreateProcess, AllocateRun, WriteRun, ProtectRun, WriteBlock, CreateThread, StartThread}
 use Rattle.libos_state.specs.declared.state.LibOs.{LibOs}
 use Rattle.libos_state.specs.Fits.{Fits, FitsStage, FitsCont}
 use Rattle.libos_state.specs.Kept.{KeptAt, IsKept}
+use Rattle.libos_state.specs.Pending.{upcall_in}
+use Rattle.libos_state.proofs.Mapping.{undecided, mmap_asks, mprotect_asks}
+use Rattle.libos_state.proofs.Serving.{trap_of}
 
 kept_at : (os : LibOs) (o : Objects) (c : Cont) (stage : Stage) → FitsStage os o c stage → KeptAt c stage
+kept_at os o c AllocatePages fits =
+    let trap = trap_of os o c.event AllocatePages refl fits.event in
+    let u = upcall_in c.event in
+    let call = undecided os u MMAP (mmap_known u.context) trap.comes in
+    (fits.kept, (mmap_asks u.context call.unknown).0)
+kept_at os o c ProtectPages fits =
+    let trap = trap_of os o c.event ProtectPages refl fits.event in
+    let u = upcall_in c.event in
+    let call = undecided os u MPROTECT (mprotect_known u.context) trap.comes in
+    (mprotect_asks u.context call.unknown).0
 kept_at os o c OpenConsole fits = fits.lists.handles
 kept_at os o c CreateProcess fits = fits.kept
 kept_at os o c AllocateRun fits = fits.kept

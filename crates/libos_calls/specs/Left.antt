@@ -5,9 +5,10 @@ use Rattle.std.specs.declared.option.Option.{Option}
 use Rattle.std.specs.declared.option.Option.TheVariants.{None, Some}
 use Rattle.abi_calls.specs.declared.reply.Reply.{Reply}
 use Rattle.abi_calls.specs.declared.reply.Reply.TheVariants.{Length}
+use Rattle.mono_model.specs.Starting.{STACK_PAGE}
 use Rattle.libos_state.specs.declared.cont.Cont.{Cont}
 use Rattle.libos_state.specs.declared.cont.Stage.{Stage}
-use Rattle.libos_state.specs.declared.cont.Stage.TheVariants.{SetContext, Resume, CloseHandles, ExitProcess, ReadBuffer, WriteStream, Configure, OpenConsole, OpenProgram, ProgramLength, ReadProgram, CloseProgram, CreateProcess, AllocateRun, WriteRun, ProtectRun, AllocateStack, WriteBlock, CreateThread, CreateEvent, StartThread}
+use Rattle.libos_state.specs.declared.cont.Stage.TheVariants.{SetContext, Resume, CloseHandles, ExitProcess, ReadBuffer, WriteStream, AllocatePages, FreePages, ProtectPages, Configure, OpenConsole, OpenProgram, ProgramLength, ReadProgram, CloseProgram, CreateProcess, AllocateRun, WriteRun, ProtectRun, AllocateStack, WriteBlock, CreateThread, CreateEvent, StartThread}
 use Rattle.libos_state.specs.declared.state.LibOs.{LibOs}
 use Rattle.libos_state.specs.Pending.{number, runs_in, run_in}
 
@@ -44,6 +45,9 @@ stages_behind Resume = 0
 stages_behind SetContext = 1
 stages_behind WriteStream = 2
 stages_behind ReadBuffer = 3
+stages_behind AllocatePages = 2
+stages_behind FreePages = 2
+stages_behind ProtectPages = 2
 stages_behind ExitProcess = 0
 stages_behind CloseHandles = 1
 stages_behind StartThread = 0
@@ -62,10 +66,12 @@ stages_behind OpenProgram = 4
 stages_behind OpenConsole = 5
 stages_behind Configure = 6
 
--- What is left to do in this stage: the handles that are still to be closed or opened, and the
--- bytes that are still to be read or written.
+-- What is left to do in this stage: the handles that are still to be closed or opened, the pages up
+-- to the stack, at which pages are still looked for, and the bytes that are still to be read or
+-- written.
 abbrev pub left_in : Cont → Stage → ℕ
 left_in c CloseHandles = length c.handles
+left_in c AllocatePages = STACK_PAGE - number c 0
 left_in c OpenConsole = 3 - length c.handles
 left_in c ReadProgram = number c 0 - length c.bytes
 left_in c WriteRun = length (run_in c).bytes - number c 1

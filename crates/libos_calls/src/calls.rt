@@ -5,6 +5,7 @@ ghost use Rattle.libos_state.specs.Kept.{IsKept, KeptAt};
 ghost use Rattle.libos_state.specs.declared.state.LibOs.{LibOs};
 
 use crate::kept::{A0, description_of, number_at, upcall_of};
+use crate::mapping::{allocate_pages, free_pages, protect_pages};
 use crate::start_calls::{
     allocate_run, allocate_stack, close_program, configure, create_thread, open_console,
     open_program, program_length, protect_run, read_program, start_thread, write_block, write_run,
@@ -100,6 +101,9 @@ fn asked(os: &LibOs, alloc: Global, cont: &Cont) -> Result<Call, Memory>
         Stage::ExitProcess => Ok(exit_process(cont)),
         Stage::ReadBuffer => Ok(read_buffer(cont)),
         Stage::WriteStream => write_stream(os, cont),
+        Stage::AllocatePages => Ok(allocate_pages(cont)),
+        Stage::FreePages => Ok(free_pages(cont)),
+        Stage::ProtectPages => Ok(protect_pages(cont)),
         Stage::Configure => configure(os),
         Stage::OpenConsole => Ok(open_console(cont)),
         Stage::OpenProgram => open_program(alloc, cont),

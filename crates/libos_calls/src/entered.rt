@@ -9,6 +9,7 @@ ghost use Rattle.libos_state.specs.declared.notes.Description.{Description};
 ghost use Rattle.libos_state.specs.declared.state.LibOs.{LibOs};
 
 use crate::kept::{A0, description_of, process_by_handle, thread_by_handle, thread_by_tid};
+use crate::mapping::memory_service;
 use crate::replies::{bare, closing, error, finishing};
 use abi_calls::Upcall;
 use bas_edge::Memory;
@@ -325,8 +326,8 @@ fn enter_call(os: &mut LibOs, alloc: Global, upcall: Upcall) -> Result<(), Memor
         }
         EXIT | EXIT_GROUP => end_process(os, alloc, upcall, (registers[A0] % 256) as u8),
         number => {
-            let result_in_a0 = known_result(os, &upcall, number);
-            os.cont = Some(finishing(alloc, Event::Up(upcall), result_in_a0));
+            let known = known_result(os, &upcall, number);
+            os.cont = Some(memory_service(alloc, upcall, known)?);
             Ok(())
         }
     }

@@ -7,6 +7,7 @@ mod calls;
 mod entered;
 mod fitting;
 mod kept;
+mod mapping;
 mod program;
 mod replies;
 mod start_calls;

@@ -10,6 +10,7 @@ ghost use Rattle.libos_state.specs.Laws.{KeepsMeaning};
 ghost use Rattle.libos_calls.specs.Left.{calls_left, IsLengthSmall};
 
 use crate::kept::{A0, items_from, upcall_of};
+use crate::mapping::{EINVAL, ENOMEM, pages_changed, pages_made};
 use crate::start_replies::{
     at_stage, change_of, child_made, end_opened, event_made, length_told, piece_read,
     piece_written, program_opened, program_read, run_allocated, run_loaded, thread_made,
@@ -149,6 +150,9 @@ fn step_of(alloc: Global, cont: Cont, reply: Reply) -> Result<Step, Memory>
             Ok(Asks(finishing(alloc, cont.event, error(EFAULT))))
         }
         (Stage::WriteStream, Reply::Count(count)) => Ok(Asks(finishing(alloc, cont.event, count))),
+        (Stage::AllocatePages, reply) => Ok(pages_made(alloc, cont, &reply)?),
+        (Stage::FreePages, reply) => Ok(pages_changed(alloc, cont, &reply, EINVAL)),
+        (Stage::ProtectPages, reply) => Ok(pages_changed(alloc, cont, &reply, ENOMEM)),
         (Stage::Configure, Reply::Done) => Ok(Asks(with_handles(
             alloc,
             cont,

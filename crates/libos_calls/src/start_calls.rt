@@ -25,7 +25,7 @@ use std::alloc::Global;
 const READ_WRITE: u8 = 3;
 
 /// The stack's first page, and how many it has.
-const STACK_PAGE: u64 = (1 << 26) - 16;
+pub const STACK_PAGE: u64 = (1 << 26) - 16;
 
 const STACK_PAGES: u64 = 16;
 

@@ -1,5 +1,5 @@
 -- Each test of what fits by itself decides it; and what fits is what fits by itself with what joins it to the objects.
-use Rattle.std.specs.Prelude.{◌≡◌, ◌↔◌, ℕ, ◌<◌, ◌≤◌, ◌==◌, Bool, true, false, not, ◌||◌, nat_le, List, [], ◌∷◌, map, length, is_some, Decides}
+use Rattle.std.specs.Prelude.{◌≡◌, ◌↔◌, ℕ, ◌+◌, ◌<◌, ◌≤◌, ◌==◌, Bool, true, false, not, ◌||◌, nat_le, List, [], ◌∷◌, map, length, is_some, Decides}
 use Rattle.std.specs.List.{list_all}
 use Rattle.std.specs.Str.{bytes_eq}
 use Rattle.std.specs.Option.{option_map}
@@ -15,21 +15,23 @@ use Rattle.abi_calls.specs.Objects.{Objects}
 use Rattle.abi_calls.specs.Processes.{is_acceptable}
 use Rattle.mono_model.specs.Machine.{register}
 use Rattle.mono_model.specs.Calls.{moved}
+use Rattle.mono_model.specs.Mapping.{MOST_PAGES, FIRST_MAPPED}
+use Rattle.mono_model.specs.Starting.{STACK_PAGE}
 use Rattle.elf_loader.specs.declared.ElfError.{ElfError}
 use Rattle.elf_loader.specs.Refusal.{refusal}
 use Rattle.libos_state.specs.declared.cont.Cont.{Cont}
 use Rattle.libos_state.specs.declared.cont.Event.{Event}
 use Rattle.libos_state.specs.declared.cont.Event.TheVariants as event
 use Rattle.libos_state.specs.declared.cont.Stage.{Stage}
-use Rattle.libos_state.specs.declared.cont.Stage.TheVariants.{CloseHandles, ExitProcess, WriteStream, Configure, OpenConsole, ReadProgram, CreateProcess, AllocateRun, WriteRun, ProtectRun, AllocateStack, WriteBlock, CreateThread, CreateEvent, StartThread}
+use Rattle.libos_state.specs.declared.cont.Stage.TheVariants.{CloseHandles, ExitProcess, WriteStream, AllocatePages, FreePages, ProtectPages, Configure, OpenConsole, ReadProgram, CreateProcess, AllocateRun, WriteRun, ProtectRun, AllocateStack, WriteBlock, CreateThread, CreateEvent, StartThread}
 use Rattle.libos_state.specs.declared.state.Boot.{Boot}
 use Rattle.libos_state.specs.declared.state.Boot.TheVariants as boot
 use Rattle.libos_state.specs.declared.state.LibOs.{LibOs}
 use Rattle.libos_state.specs.Records.{process_named, process_with, thread_named}
 use Rattle.libos_state.specs.Pending.{upcall_in, number, program_name, arguments, runs_in, run_in}
 use Rattle.libos_state.specs.Named.{consoles, kinds_at}
-use Rattle.libos_state.specs.Fits.{Fits, FitsCont, FitsBoot, FitsEvent, FitsNone, FitsRecords, are_distinct, is_given, is_fit_process, is_fit_parent, is_alive, is_described, is_fit_access, is_fit_append, LAST_ID, KeepsLists, HasHandles, FitsNames, AreNames, KeepsCode, KeepsSize, KeepsRun, KeepsPlace, FitsKept, is_none, keeps_next, keeps_names, keeps_bytes, numbers_at, is_ended_with}
-use Rattle.libos_state.specs.Alone.{fits_records, has_first, HasNoRecords, has_no_records, FitsProgress, fits_progress, serves_in, FitsAlone, fits_alone, event_comes_to, FitsService, is_same_context, has_handles, keeps_lists, fits_names, are_names, keeps_code, keeps_size, keeps_run, keeps_place, is_zero_alone, fits_kept, fits_service, FitsServices, IsAtEvent, HasConsoles, FitsSettledObjects, FitsWorld}
+use Rattle.libos_state.specs.Fits.{Fits, FitsCont, FitsBoot, FitsEvent, FitsNone, FitsRecords, are_distinct, is_given, is_fit_process, is_alive, is_described, is_fit_access, KeepsLists, HasHandles, FitsNames, AreNames, KeepsCode, KeepsPages, KeepsSize, KeepsRun, KeepsPlace, FitsKept, is_none, keeps_next, keeps_names, keeps_bytes, numbers_at, is_ended_with, is_fit_parent, is_fit_append, LAST_ID}
+use Rattle.libos_state.specs.Alone.{fits_records, has_first, HasNoRecords, has_no_records, FitsProgress, fits_progress, serves_in, FitsAlone, fits_alone, event_comes_to, FitsService, is_same_context, has_handles, keeps_lists, fits_names, are_names, keeps_code, keeps_pages, keeps_size, keeps_run, keeps_place, is_zero_alone, fits_kept, fits_service, FitsServices, IsAtEvent, HasConsoles, FitsSettledObjects, FitsWorld}
 
 -- ---- tests and what they tell
 
@@ -154,6 +156,13 @@ Decides-absent : (x : Option ElfError) → Decides (not (is_some x)) (x ≡ None
 Decides-absent None = (λ _. refl, λ _. refl)
 Decides-absent (Some cause) = (λ e. absurd (true≢false (sym e)), λ e. absurd (cc))
 
+Decides-keeps_pages : (c : Cont) → Decides (keeps_pages c) (KeepsPages c)
+Decides-keeps_pages c = Decides-like (keeps_pages c)
+    (λ p. record { some = p.0; few = p.1.0; above = p.1.1.0; below = p.1.1.1 })
+    (λ (k : KeepsPages c). (k.some, (k.few, (k.above, k.below))))
+    (Decides-and _ _ (Decides-leb 1 (number c 1)) (Decides-and _ _ (Decides-leb (number c 1) MOST_PAGES)
+    (Decides-and _ _ (Decides-leb FIRST_MAPPED (number c 0)) (Decides-leb (number c 0 + number c 1) STACK_PAGE))))
+
 Decides-keeps_run : (c : Cont) → Decides (keeps_run c) (KeepsRun c)
 Decides-keeps_run c = Decides-like (keeps_run c)
     (λ p. record { program = p.0; among = p.1 })
@@ -170,6 +179,9 @@ Decides-fits_kept : (os : LibOs) (c : Cont) (stage : Stage) → Decides (fits_ke
 Decides-fits_kept os c CloseHandles = Decides-keeps_code os c c.numbers refl
 Decides-fits_kept os c ExitProcess = Decides-keeps_code os c c.numbers refl
 Decides-fits_kept os c WriteStream = Decides-and _ _ (Decides-zero_alone c.numbers) (Decides-eqb (length c.bytes) (moved (register (upcall_in c.event).context 12)))
+Decides-fits_kept os c AllocatePages = Decides-keeps_pages c
+Decides-fits_kept os c FreePages = Decides-leb 1 (number c 1)
+Decides-fits_kept os c ProtectPages = Decides-leb 1 (number c 1)
 Decides-fits_kept os c Configure = is_true (is_acceptable os.settings)
 Decides-fits_kept os c ReadProgram = Decides-keeps_size c c.numbers refl
 Decides-fits_kept os c CreateProcess = Decides-absent (refusal c.bytes)

@@ -1,20 +1,21 @@
 -- What the stages owe, collected: the answered library OS keeps what it stands for.
-use Rattle.std.specs.Prelude.{◌≡◌, true, false}
+use Rattle.std.specs.Prelude.{◌≡◌, ℕ, true, false}
 use Rattle.std.specs.declared.option.Option.{Option}
 use Rattle.std.specs.declared.option.Option.TheVariants.{None, Some}
 use Rattle.std.proofs.Common.{refl, subst, ◌∙◌}
 use Rattle.abi_calls.specs.declared.call.Call.{Call}
 use Rattle.abi_calls.specs.declared.reply.Reply.{Reply}
-use Rattle.abi_calls.specs.declared.reply.Reply.TheVariants.{Done, Bytes, Count, BadAddress, NoAccess}
+use Rattle.abi_calls.specs.declared.reply.Reply.TheVariants.{Done, Bytes, Count, Exists, BadAddress, NoAccess, NoRoom}
 use Rattle.abi_calls.specs.Sound.{IsSound}
+use Rattle.mono_model.specs.Calls.{ENOMEM, EINVAL}
 use Rattle.libos_state.specs.declared.cont.Cont.{Cont}
 use Rattle.libos_state.specs.declared.cont.Stage.{Stage}
-use Rattle.libos_state.specs.declared.cont.Stage.TheVariants.{SetContext, Resume, CloseHandles, ExitProcess, ReadBuffer, WriteStream}
+use Rattle.libos_state.specs.declared.cont.Stage.TheVariants.{SetContext, Resume, CloseHandles, ExitProcess, ReadBuffer, WriteStream, AllocatePages, FreePages, ProtectPages}
 use Rattle.libos_state.specs.declared.state.Boot.TheVariants.{Going, Up}
 use Rattle.libos_state.specs.declared.state.LibOs.{LibOs}
 use Rattle.libos_state.specs.Records.{View, visible}
 use Rattle.libos_state.specs.Pending.{asked, asked_by}
-use Rattle.libos_state.specs.Answered.{answered, answered_at, answered_in}
+use Rattle.libos_state.specs.Answered.{with_step, changed_step, answered, answered_at, answered_in}
 use Rattle.libos_state.specs.Meaning.{meaning, meant}
 use Rattle.libos_state.specs.Fits.{Fits, FitsStage, FitsCont, is_of_start}
 use Rattle.libos_state.specs.Laws.{Keeps, KeepsMeaning}
@@ -29,6 +30,11 @@ record Goes (os : LibOs) (cont : Option Cont) (w : View) (r : Reply) (w' : View)
   pub keeps : Keeps w (meant os (visible w) cont) w' (meaning (answered_in os cont r) (visible w'))
   pub quiet : os.boot ≡ Going → w'.contents ≡ w.contents
   pub up : os.boot ≡ Up → (answered_in os cont r).boot ≡ Up
+
+changed_boot : (os : LibOs) (c : Cont) (refused : ℕ) (r : Reply) → (with_step os (changed_step c refused r)).boot ≡ os.boot
+changed_boot os c refused Done = refl
+changed_boot os c refused BadAddress = refl
+changed_boot os c refused _ = refl
 
 -- A service on a trap leaves how far the start is.
 boot_stays : (os : LibOs) (c : Cont) (stage : Stage) (r : Reply) → is_of_start stage ≡ false
@@ -45,6 +51,12 @@ boot_stays os c ReadBuffer NoAccess other = refl
 boot_stays os c ReadBuffer _ other = refl
 boot_stays os c WriteStream (Count n) other = refl
 boot_stays os c WriteStream _ other = refl
+boot_stays os c AllocatePages Done other = refl
+boot_stays os c AllocatePages Exists other = refl
+boot_stays os c AllocatePages NoRoom other = refl
+boot_stays os c AllocatePages _ other = refl
+boot_stays os c FreePages r other = changed_boot os c EINVAL r
+boot_stays os c ProtectPages r other = changed_boot os c ENOMEM r
 boot_stays os c _ r other = absurd (cc)
 
 -- Each stage gives what it owes.

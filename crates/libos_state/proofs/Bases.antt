@@ -17,8 +17,7 @@ use Rattle.abi_calls.specs.Objects.{Live, object_at, with_object, with_lists, wi
 use Rattle.abi_calls.proofs.SoundChanges.{object_at-without_handles}
 use Rattle.bas_items.proofs.NumberMaps.{get-empty, get-insert, get-insert-same, get-insert-other, same_numbers}
 use Rattle.mono_model.specs.Machine as mono
-use Rattle.mono_model.specs.Machine.{Mono, Target, Gone, Waiter, code_in, process_at, thread_at, with_context, with_registers, is_woken, made_ready}
-use Rattle.mono_model.specs.Turns.{with_memory_in}
+use Rattle.mono_model.specs.Machine.{Mono, Target, Gone, Waiter, code_in, process_at, thread_at, with_memory_in, with_context, with_registers, is_woken, made_ready}
 use Rattle.mono_model.specs.Calls.{description_of, described_by, described_in}
 use Rattle.libos_state.specs.declared.notes.DescriptorNote.{DescriptorNote}
 use Rattle.libos_state.specs.declared.notes.ProcessNote.{ProcessNote}

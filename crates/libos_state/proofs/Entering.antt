@@ -1,5 +1,5 @@
 -- The library OS begins to serve a trap: it stands for the machine that has served it.
-use Rattle.std.specs.Prelude.{◌≡◌, ℕ, ◌%◌, ◌==◌, ◌<◌, Bool, true, false, cond, if◌then◌else◌, not, ◌&&◌, ◌||◌, [], ◌∷◌, bit_and, is_some}
+use Rattle.std.specs.Prelude.{◌≡◌, ℕ, ◌/◌, ◌%◌, ◌==◌, ◌<◌, Bool, true, false, cond, if◌then◌else◌, not, ◌&&◌, ◌||◌, [], ◌∷◌, bit_and, is_some}
 use Rattle.std.specs.Option.{option_map}
 use Rattle.std.specs.declared.option.Option.{Option}
 use Rattle.std.specs.declared.option.Option.TheVariants.{None, Some}
@@ -11,11 +11,12 @@ use Rattle.abi_calls.specs.declared.threads.Turned.TheVariants.{Exception}
 use Rattle.abi_calls.specs.declared.threads.Upcall.{Upcall}
 use Rattle.abi_calls.specs.Objects.{Objects, object_at}
 use Rattle.mono_model.specs.Machine.{Mono, register, process_at}
+use Rattle.mono_model.specs.Calls.{Caller, Served, WRITE, MUNMAP, MMAP, MPROTECT, EBADF, ENOSYS, error, unless_known, munmap_known, munmap, free_pages, mprotect_known, mprotect, protect_pages, mmap_known, mmap, map_from, memory_call, fault_code, finished, silently, ended, description_of, write, write_to, write_from, writable, moved, exit, system_call, served, is_exit, SCHED_YIELD, GETPID, GETPPID, GETTID, parent_in}
+use Rattle.mono_model.specs.Mapping.{FIRST_MAPPED, pages_for}
 use Rattle.mono_model.specs.Calls as calls
-use Rattle.mono_model.specs.Calls.{Caller, Served, WRITE, is_exit, SCHED_YIELD, GETPID, GETPPID, GETTID, EBADF, ENOSYS, error, parent_in, fault_code, finished, silently, ended, description_of, write, write_to, write_from, writable, moved, exit, system_call, served}
 use Rattle.mono_model.specs.Starting.{Runs}
 use Rattle.libos_state.specs.declared.cont.Cont.{Cont}
-use Rattle.libos_state.specs.declared.cont.Stage.TheVariants.{SetContext, CloseHandles, ReadBuffer}
+use Rattle.libos_state.specs.declared.cont.Stage.TheVariants.{SetContext, CloseHandles, ReadBuffer, AllocatePages, FreePages, ProtectPages}
 use Rattle.libos_state.specs.declared.cont.Stage.{Stage}
 use Rattle.libos_state.specs.declared.notes.Description.{Description}
 use Rattle.libos_state.specs.declared.notes.ProcessNote.{ProcessNote}
@@ -23,16 +24,17 @@ use Rattle.libos_state.specs.declared.state.LibOs.{LibOs}
 use Rattle.libos_state.specs.declared.state.Boot.TheVariants.{Up}
 use Rattle.libos_state.specs.Records.{Visible, with_visible, base, description_behind, description_seen, stream_of_kind, memory_of_object, process_if, process_named, process_with, pid_with, pid_of}
 use Rattle.libos_state.specs.Answered.{goes_on}
-use Rattle.libos_state.specs.Entered.{entered, entered_with, result_of, write_entered, ends_process, parent_of, known_result, call_entered, handles_of, note_ended, without_process}
+use Rattle.libos_state.specs.Entered.{entered, entered_with, result_of, write_entered, ends_process, call_entered, on_pages, munmap_entered, mmap_entered, mprotect_entered, memory_entered, handles_of, note_ended, without_process, parent_of, known_result}
 use Rattle.libos_state.specs.Meaning.{caller_of, leads_to, settles}
-use Rattle.libos_state.specs.Fits.{FitsStage, FitsTrap, comes_to, is_call, is_exit_call, is_recorded, is_writable, is_ended_with, writes, returns}
+use Rattle.libos_state.specs.Fits.{FitsStage, FitsTrap, KeepsPages, comes_to, is_undecided, is_call, is_recorded, is_writable, is_ended_with, writes, returns, is_exit_call}
 use Rattle.libos_state.specs.Turned.{FitsTrapped, TurnsTo}
 use Rattle.libos_state.specs.Laws.{EntersTurn}
 use Rattle.libos_state.proofs.Rows.{Stands}
 use Rattle.libos_state.proofs.Going.{FitsRecords-with_service, FitsObjects-with_service}
 use Rattle.libos_state.proofs.Naming.{times_named-recorded, times_recorded-most, Trapped, trapped, caller_of-trapped}
 use Rattle.libos_state.proofs.Bases.{description_of-base, process_at-found}
-use Rattle.libos_state.proofs.Serving.{result_fits}
+use Rattle.libos_state.proofs.Mapping.{munmap_asks, mprotect_asks, mmap_asks}
+use Rattle.libos_state.proofs.Serving.{numbers_fit, result_fits}
 use Rattle.libos_state.proofs.Writing.{served_write}
 use Rattle.libos_state.proofs.Ending.{closing_fits, closing_means}
 use Rattle.libos_state.proofs.Closing.{process_found, pid_is, process_there, FitsObjects-without_process}
@@ -164,19 +166,87 @@ module _ (os : LibOs) (v : Visible) (u : Upcall) (up : os.boot ≡ Up) (fits : F
   known_is : known_result os u number ≡ calls.known_result m who number
   known_is = ap (λ parent. if number == SCHED_YIELD then 0 else (if number == GETPID then who.process else (if number == GETPPID then parent else (if number == GETTID then who.thread else error ENOSYS)))) parent_is
 
-  other_stands : (u.cause == 8) ≡ true → (exits : Bool) → is_exit number ≡ exits →
-      Stands (cond exits (ends_process os u (register u.context 10 % 256)) (result_of os u (known_result os u number))) v
-      (leads_to (cond exits (silently (exit m who)) (silently (finished m who (calls.known_result m who number)))))
-  other_stands call true is = ends (register u.context 10 % 256) (omega arith)
-      (or_right (not (u.cause == 8)) (is_exit_call u) (and_from (u.cause == 8) (is_exit number) call is))
-  other_stands call false other = subst (λ result. Stands (result_of os u (known_result os u number)) v (leads_to (silently (finished m who result)))) known_is
+  -- a call on pages: a result that its arguments decide, or a stage
+  abbrev paged : Stage → ℕ → ℕ → Cont
+  paged stage page count = record (entered_with u) { stage = stage; numbers = page ∷ count ∷ [] }
+
+  pages_stand : (stage : Stage) (page count : ℕ) (goes : Mono) (known x : Option ℕ) → known ≡ x → returns os u ≡ true
+      → (known ≡ None → Stands (goes_on os (paged stage page count)) v (leads_to (silently goes)))
+      → Stands (on_pages os u x stage page count) v (leads_to (silently (unless_known m who x goes)))
+  pages_stand stage page count goes known None is next rest = rest is
+  pages_stand stage page count goes known (Some result) is next rest = result_stands result next
+
+  abbrev IsCall : ℕ → Type 0
+  IsCall n = ((u.cause == 8) ≡ true) × ((register u.context 17 == n) ≡ true)
+
+  undecided_comes : (n : ℕ) (known : Option ℕ) → IsCall n → known ≡ None → is_undecided os u n known ≡ true
+  undecided_comes n known is none =
+      and_from (is_call u n) (not (is_some known) && is_recorded os u) (and_from (u.cause == 8) (register u.context 17 == n) is.0 is.1)
+      (and_from (not (is_some known)) (is_recorded os u) (ap (λ x. not (is_some x)) none) fits.recorded)
+
+  call_goes : (n : ℕ) → is_exit n ≡ false → IsCall n → returns os u ≡ true
+  call_goes n other is = call_returns is.0 (ap is_exit (eqb-true (register u.context 17) n is.1) ∙ other)
+
+  abbrev pages : ℕ
+  pages = pages_for (register u.context 11)
+
+  munmap_stands : IsCall MUNMAP → Stands (munmap_entered os u) v (leads_to (silently (munmap m who)))
+  munmap_stands is =
+      let known = munmap_known u.context in
+      let page = register u.context 10 / 4096 in
+      pages_stand FreePages page pages (free_pages m who page pages) known known refl (call_goes MUNMAP refl is) (λ none. record {
+        fits = numbers_fit os v.objects (entered_with u) FreePages (page ∷ pages ∷ []) fits.records fits.objects
+            (trap_at (Some (paged FreePages page pages)) FreePages (undecided_comes MUNMAP known is none)) refl refl refl refl (munmap_asks u.context none) tt;
+        means = refl;
+      })
+
+  mprotect_stands : IsCall MPROTECT → Stands (mprotect_entered os u) v (leads_to (silently (mprotect m who)))
+  mprotect_stands is =
+      let known = mprotect_known u.context in
+      let page = register u.context 10 / 4096 in
+      pages_stand ProtectPages page pages (protect_pages m who page pages) known known refl (call_goes MPROTECT refl is) (λ none. record {
+        fits = numbers_fit os v.objects (entered_with u) ProtectPages (page ∷ pages ∷ []) fits.records fits.objects
+            (trap_at (Some (paged ProtectPages page pages)) ProtectPages (undecided_comes MPROTECT known is none)) refl refl refl refl ((mprotect_asks u.context none).1) tt;
+        means = refl;
+      })
+
+  mmap_kept : mmap_known u.context ≡ None → KeepsPages (paged AllocatePages FIRST_MAPPED pages)
+  mmap_kept none =
+      let asks = mmap_asks u.context none in
+      let few = asks.2 in
+      record { some = asks.1; few = few; above = omega arith; below = omega arith }
+
+  mmap_stands : IsCall MMAP → Stands (mmap_entered os u) v (leads_to (silently (mmap m who)))
+  mmap_stands is =
+      let known = mmap_known u.context in
+      pages_stand AllocatePages FIRST_MAPPED pages (map_from m who FIRST_MAPPED pages) known known refl (call_goes MMAP refl is) (λ none. record {
+        fits = numbers_fit os v.objects (entered_with u) AllocatePages (FIRST_MAPPED ∷ pages ∷ []) fits.records fits.objects
+            (trap_at (Some (paged AllocatePages FIRST_MAPPED pages)) AllocatePages (undecided_comes MMAP known is none)) refl refl refl refl (mmap_kept none) tt;
+        means = refl;
+      })
+
+  memory_stands : (u.cause == 8) ≡ true → is_exit number ≡ false → (unmaps maps protects : Bool) → (number == MUNMAP) ≡ unmaps → (number == MMAP) ≡ maps → (number == MPROTECT) ≡ protects →
+      Stands (cond unmaps (munmap_entered os u) (cond maps (mmap_entered os u) (cond protects (mprotect_entered os u) (result_of os u (known_result os u number))))) v
+      (leads_to (silently (cond unmaps (munmap m who) (cond maps (mmap m who) (cond protects (mprotect m who) (finished m who (calls.known_result m who number)))))))
+  memory_stands call other true maps protects is m p = munmap_stands (call, is)
+  memory_stands call other false true protects u is p = mmap_stands (call, is)
+  memory_stands call other false false true u m is = mprotect_stands (call, is)
+  memory_stands call other false false false x y z =
+      subst (λ result. Stands (result_of os u (known_result os u number)) v (leads_to (silently (finished m who result)))) known_is
       (result_stands (known_result os u number) (call_returns call other))
 
+  other_stands : (u.cause == 8) ≡ true → (exits : Bool) → is_exit number ≡ exits →
+      Stands (cond exits (ends_process os u (register u.context 10 % 256)) (memory_entered os u number)) v
+      (leads_to (cond exits (silently (exit m who)) (silently (memory_call m who number))))
+  other_stands call true is = ends (register u.context 10 % 256) (omega arith)
+      (or_right (not (u.cause == 8)) (is_exit_call u) (and_from (u.cause == 8) (is_exit number) call is))
+  other_stands call false other = memory_stands call other (number == MUNMAP) (number == MMAP) (number == MPROTECT) refl refl refl
+
   abbrev other_entered : LibOs
-  other_entered = if is_exit number then ends_process os u (register u.context 10 % 256) else result_of os u (known_result os u number)
+  other_entered = if is_exit number then ends_process os u (register u.context 10 % 256) else memory_entered os u number
 
   abbrev other_call : Served
-  other_call = if is_exit number then silently (exit m who) else silently (finished m who (calls.known_result m who number))
+  other_call = if is_exit number then silently (exit m who) else silently (memory_call m who number)
 
   call_stands : (u.cause == 8) ≡ true → (writes : Bool) → (number == WRITE) ≡ writes →
       Stands (cond writes (write_entered os u (description_behind os u.process fd)) other_entered) v (leads_to (cond writes (write m who) other_call))

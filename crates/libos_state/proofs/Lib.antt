@@ -3,6 +3,7 @@ pub mod Answering
 pub mod Bases
 pub mod Beginning
 pub mod Booting
+pub mod Callers
 pub mod Closing
 pub mod Distinct
 pub mod Ending
@@ -16,6 +17,7 @@ pub mod Leaving
 pub mod LeftRecords
 pub mod Loading
 pub mod Making
+pub mod Mapping
 pub mod Naming
 pub mod Opening
 pub mod Pages

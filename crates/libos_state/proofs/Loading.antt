@@ -29,7 +29,7 @@ use Rattle.libos_state.specs.Named.{kept_names}
 use Rattle.libos_state.specs.Fits.{FitsObjects, FitsStage, HasPages, extents_in, extents_before, writable}
 use Rattle.libos_state.proofs.Holds.{HoldsQuietly}
 use Rattle.libos_state.proofs.Rows.{Stands, quietly_by_row}
-use Rattle.libos_state.proofs.Pages.{pages_made, pages_filled, pages_protected, has_first, allocate_row, protect_row, write_row, child_was, child_is, FitsObjects-pages}
+use Rattle.libos_state.proofs.Pages.{pages_made, pages_filled, pages_protected, has_first, allocate_row, protect_row, write_row, child_was, child_is, FitsObjects-pages, is_run-below_stack}
 use Rattle.libos_state.proofs.Starts.{start_of, start_goes_on}
 use Rattle.libos_state.proofs.Pieces.{piece_and_behind}
 use Rattle.libos_state.proofs.Programs.{len_of, lies_behind}
@@ -43,13 +43,6 @@ leads_behind w c s = settles (begins_with (visible w) c (stacked s (arguments c)
 
 some_bytes : (count size : ℕ) → 1 ≤ count → size ≡ 4096 * count → 0 < size
 some_bytes count size some is = omega arith
-
-program_run : (page count : ℕ) → 1 ≤ page → 1 ≤ count → page + count ≤ 2 ^ 26 - 16 → is_run page count ≡ true
-program_run page count above some below =
-    let low = lt-ltb 0 page (omega arith) in
-    let many = lt-ltb 0 count (omega arith) in
-    let high = le-leb (page + count) (2 ^ 26) (omega arith) in
-    λ i. low i && many i && high i
 
 pub keeps_allocate_run : (os : LibOs) (c : Cont) (w w' : View) (r : Reply)
     → FitsStage os w.objects c AllocateRun → IsSound w.objects
@@ -71,7 +64,7 @@ keeps_allocate_run os c w w' r fits sound abi =
     let o = with_pages w.objects p new in
     let row : answer w (asked os c AllocateRun) r ≡ (Done, with_objects w o) =
     ap (on_objects w) (allocate_row w.objects p s fits.made.child run.page count 3
-    (program_run run.page count lies.above lies.some lies.below) refl none room) in
+    (is_run-below_stack run.page count lies.above lies.some lies.below) refl none room) in
     let start : run.page * 4096 + 0 ≡ run.page * 4096 = omega arith in
     let child = get-insert-same w.objects.live p (Process new None) in
     quietly_by_row os c AllocateRun w w' r Done o abi row (record {

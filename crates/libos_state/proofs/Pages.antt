@@ -1,10 +1,10 @@
 -- The pages of the process that is made, and the calls on them.
-use Rattle.std.specs.Prelude.{◌≡◌, ℕ, ◌+◌, ◌≤◌, ◌<◌, Bool, true, false, cond, not, ◌&&◌, ◌||◌, ◌==◌, if◌then◌else◌, nat_lt, nat_le, is_some, List, ◌∷◌, length}
+use Rattle.std.specs.Prelude.{◌≡◌, ℕ, ◌+◌, ◌-◌, ◌^◌, ◌≤◌, ◌<◌, Bool, true, false, cond, not, ◌&&◌, ◌||◌, ◌==◌, if◌then◌else◌, nat_lt, nat_le, is_some, List, ◌∷◌, length}
 use Rattle.std.specs.FinMap.{len}
 use Rattle.std.specs.Option.{option_map}
 use Rattle.std.specs.declared.option.Option.{Option}
 use Rattle.std.specs.declared.option.Option.TheVariants.{None, Some}
-use Rattle.std.proofs.Common.{refl, sym, ap, subst, ◌∙◌, le-ltb}
+use Rattle.std.proofs.Common.{refl, sym, ap, subst, ◌∙◌, arith, lt-ltb, le-leb, le-ltb}
 use Rattle.std.proofs.lemmas.Bool.{cond-true}
 use Rattle.guest_space.specs.declared.Extent.{Extent}
 use Rattle.guest_space.specs.Regions.{extent_rights}
@@ -62,6 +62,14 @@ pub has_first : (s : Space) (extents : List Extent) (page count rights : ℕ) �
 has_first s extents page count rights has q low high = has q ∙ cond-true _ _ _ (in_run_within page count q low high)
 
 -- ---- the calls on the pages of a process that runs
+
+-- A run that ends below the stack is one that a process may have.
+pub is_run-below_stack : (page count : ℕ) → 1 ≤ page → 1 ≤ count → page + count ≤ 2 ^ 26 - 16 → is_run page count ≡ true
+is_run-below_stack page count above some below =
+    let low = lt-ltb 0 page (omega arith) in
+    let many = lt-ltb 0 count (omega arith) in
+    let high = le-leb (page + count) (2 ^ 26) (omega arith) in
+    λ i. low i && many i && high i
 
 module _ (o : Objects) (p : ℕ) (s : Space) (there : object_at o p ≡ Some (Process s None)) where
   pub allocate_row : (page count rights : ℕ) → is_run page count ≡ true → nat_le rights 7 ≡ true → first_held s page count ≡ None → len s + count ≤ 1024 →

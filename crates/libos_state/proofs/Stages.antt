@@ -10,7 +10,7 @@ use Rattle.abi_calls.specs.declared.reply.Reply.{Reply}
 use Rattle.abi_calls.specs.Sound.{IsSound}
 use Rattle.libos_state.specs.declared.cont.Cont.{Cont}
 use Rattle.libos_state.specs.declared.cont.Stage.{Stage}
-use Rattle.libos_state.specs.declared.cont.Stage.TheVariants.{SetContext, Resume, CloseHandles, ExitProcess, ReadBuffer, WriteStream, Configure, OpenConsole, OpenProgram, ProgramLength, ReadProgram, CloseProgram, CreateProcess, AllocateRun, WriteRun, ProtectRun, AllocateStack, WriteBlock, CreateThread, CreateEvent, StartThread}
+use Rattle.libos_state.specs.declared.cont.Stage.TheVariants.{SetContext, Resume, CloseHandles, ExitProcess, ReadBuffer, WriteStream, AllocatePages, FreePages, ProtectPages, Configure, OpenConsole, OpenProgram, ProgramLength, ReadProgram, CloseProgram, CreateProcess, AllocateRun, WriteRun, ProtectRun, AllocateStack, WriteBlock, CreateThread, CreateEvent, StartThread}
 use Rattle.libos_state.specs.declared.state.LibOs.{LibOs}
 use Rattle.libos_state.specs.Records.{View}
 use Rattle.libos_state.specs.Pending.{asked}
@@ -22,6 +22,7 @@ use Rattle.libos_state.proofs.Answering.{answered_from}
 use Rattle.libos_state.proofs.Resuming.{keeps_set_context, keeps_resume}
 use Rattle.libos_state.proofs.Ending.{keeps_close_handles, keeps_exit_process}
 use Rattle.libos_state.proofs.Writing.{keeps_read_buffer, keeps_write_stream}
+use Rattle.libos_state.proofs.Mapping.{keeps_allocate_pages, keeps_free_pages, keeps_protect_pages}
 use Rattle.libos_state.proofs.Opening.{keeps_configure, keeps_open_console, keeps_open_program}
 use Rattle.libos_state.proofs.Reading.{keeps_program_length, keeps_read_program, keeps_close_program}
 use Rattle.libos_state.proofs.Making.{keeps_create_process, keeps_create_thread, keeps_create_event}
@@ -58,6 +59,9 @@ keeps_trap os c CloseHandles w w' r other = keeps_close_handles os c w w' r
 keeps_trap os c ExitProcess w w' r other = keeps_exit_process os c w w' r
 keeps_trap os c ReadBuffer w w' r other = keeps_read_buffer os c w w' r
 keeps_trap os c WriteStream w w' r other = keeps_write_stream os c w w' r
+keeps_trap os c AllocatePages w w' r other = keeps_allocate_pages os c w w' r
+keeps_trap os c FreePages w w' r other = keeps_free_pages os c w w' r
+keeps_trap os c ProtectPages w w' r other = keeps_protect_pages os c w w' r
 keeps_trap os c _ w w' r other = absurd (cc)
 
 keeps_start : (os : LibOs) (c : Cont) (stage : Stage) (w w' : View) (r : Reply)

@@ -8,7 +8,7 @@ use Rattle.libos_state.specs.declared.cont.Cont.{Cont}
 use Rattle.libos_state.specs.declared.cont.Event.{Event}
 use Rattle.libos_state.specs.declared.cont.Event.TheVariants as event
 use Rattle.libos_state.specs.declared.cont.Stage.{Stage}
-use Rattle.libos_state.specs.declared.cont.Stage.TheVariants.{SetContext, Resume, CloseHandles, ExitProcess, ReadBuffer, WriteStream}
+use Rattle.libos_state.specs.declared.cont.Stage.TheVariants.{SetContext, Resume, CloseHandles, ExitProcess, ReadBuffer, WriteStream, AllocatePages, FreePages, ProtectPages}
 use Rattle.libos_state.specs.declared.state.Boot.{Boot}
 use Rattle.libos_state.specs.declared.state.LibOs.{LibOs}
 use Rattle.libos_state.specs.Answered.{goes_on, starting}
@@ -25,6 +25,9 @@ comes_to-start os u CloseHandles starts = absurd (cc)
 comes_to-start os u ExitProcess starts = absurd (cc)
 comes_to-start os u ReadBuffer starts = absurd (cc)
 comes_to-start os u WriteStream starts = absurd (cc)
+comes_to-start os u AllocatePages starts = absurd (cc)
+comes_to-start os u FreePages starts = absurd (cc)
+comes_to-start os u ProtectPages starts = absurd (cc)
 comes_to-start os u _ starts = refl
 
 keeps_next-start : (stage : Stage) → is_of_start stage ≡ true → keeps_next stage ≡ false

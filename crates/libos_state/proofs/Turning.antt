@@ -20,10 +20,10 @@ use Rattle.abi_calls.proofs.Facts.{RunsIn}
 use Rattle.abi_calls.proofs.TurnFacts.{world_turn-runs, world_turn-cases, home_apart}
 use Rattle.abi_calls.proofs.Sounds.{IsSound-with_due_ready}
 use Rattle.bas_items.proofs.NumberMaps.{get-insert-same, get-insert-other}
-use Rattle.mono_model.specs.Machine.{Mono, process_at, with_context, made_ready}
+use Rattle.mono_model.specs.Machine.{Mono, process_at, with_memory_in, with_context, made_ready}
 use Rattle.mono_model.specs.Calls.{Trap, Served, silently, served, memory_at, memory_in}
 use Rattle.mono_model.specs.Turns as machine
-use Rattle.mono_model.specs.Turns.{turn_of, turn_of_pick, awoken, is_stuck, is_nobody, waits_for_time, pick_word, after_run, with_memory_in}
+use Rattle.mono_model.specs.Turns.{turn_of, turn_of_pick, awoken, is_stuck, is_nobody, waits_for_time, pick_word, after_run}
 use Rattle.libos_state.specs.declared.notes.ThreadNote.{ThreadNote}
 use Rattle.libos_state.specs.declared.state.LibOs.{LibOs}
 use Rattle.libos_state.specs.Records.{Visible, with_visible, base, thread_with, thread_seen, process_if, memory_of_object, context_of, tids_of, tid_of, pid_of}

@@ -1,5 +1,5 @@
 -- Worked examples: a library OS with two processes and three threads that fits its objects, and four neighbours that fit none.
-use Rattle.std.specs.Prelude.{◌≡◌, ℕ, ◌+◌, ◌==◌, true, false, cond, not, List, [], ◌∷◌, ◌++◌, map, find}
+use Rattle.std.specs.Prelude.{◌≡◌, ℕ, ◌+◌, ◌==◌, true, false, cond, not, List, [], ◌∷◌, ◌++◌, map, find, replicate}
 use Rattle.std.specs.List.{list_all}
 use Rattle.std.specs.FinMap.{from_entries, empty}
 use Rattle.std.specs.Option.{option_map}
@@ -17,7 +17,7 @@ use Rattle.turn_sched.specs.declared.settings.Settings.{Settings}
 use Rattle.abi_calls.specs.Objects.{Object, Objects, object_at, is_thread_of}
 use Rattle.libos_state.specs.declared.cont.Cont.{Cont}
 use Rattle.libos_state.specs.declared.cont.Event.TheVariants as event
-use Rattle.libos_state.specs.declared.cont.Stage.TheVariants.{CloseHandles, Resume}
+use Rattle.libos_state.specs.declared.cont.Stage.TheVariants.{CloseHandles, Resume, AllocatePages, FreePages, ProtectPages}
 use Rattle.libos_state.specs.declared.notes.Description.{Description}
 use Rattle.libos_state.specs.declared.notes.DescriptorNote.{DescriptorNote}
 use Rattle.libos_state.specs.declared.notes.Kind.{Kind}
@@ -311,3 +311,44 @@ module _ (settings : Settings) (positions : Positions) (memory : Space) (context
   -- No fault comes to the stage that resumes a thread.
   other_stage : fits_service ended (closing no_context [] (19 ∷ []) (132 ∷ [])) Resume ≡ false
   other_stage = refl
+
+  -- mmap of a byte by the first thread of the first process, which looks for so many pages from one on.
+  abbrev mapping : ℕ → ℕ → Cont
+  mapping page count =
+      let registers : Context = record { pc = 0; x = replicate 10 0 ++ (1 ∷ 3 ∷ 0x22 ∷ 0 ∷ 0 ∷ 0 ∷ 222 ∷ replicate 14 0) } in
+      record {
+        event = event.Up (record { process = 11; thread = 13; cause = 8; value = 0; context = registers });
+        stage = AllocatePages;
+        next = registers;
+        names = [];
+        bytes = [];
+        handles = [];
+        later = [];
+        numbers = page ∷ count ∷ [];
+      }
+
+  -- It fits from page 65,536 on, with 1,024 pages at most, and below the stack.
+  mapping_fits : fits_service worked (mapping 65536 1) AllocatePages ≡ true
+  mapping_fits = refl
+
+  last_run_fits : fits_service worked (mapping 67107824 1024) AllocatePages ≡ true
+  last_run_fits = refl
+
+  too_low : fits_service worked (mapping 65535 1) AllocatePages ≡ false
+  too_low = refl
+
+  in_the_stack : fits_service worked (mapping 67107825 1024) AllocatePages ≡ false
+  in_the_stack = refl
+
+  too_many : fits_service worked (mapping 65536 1025) AllocatePages ≡ false
+  too_many = refl
+
+  no_page : fits_service worked (mapping 65536 0) AllocatePages ≡ false
+  no_page = refl
+
+  -- No mmap comes to the stages of munmap and mprotect.
+  not_freed : fits_service worked (mapping 65536 1) FreePages ≡ false
+  not_freed = refl
+
+  not_protected : fits_service worked (mapping 65536 1) ProtectPages ≡ false
+  not_protected = refl

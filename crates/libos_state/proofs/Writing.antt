@@ -21,7 +21,7 @@ use Rattle.abi_calls.specs.Sound.{IsSound}
 use Rattle.mono_model.specs.Machine as mono
 use Rattle.mono_model.specs.Machine.{Mono, register}
 use Rattle.mono_model.specs.Written.{nothing, and_then}
-use Rattle.mono_model.specs.Calls.{Caller, Trap, WRITE, is_exit, EFAULT, error, moved, served, sent, write_from, write_to, write_unless, write_bytes, writable, description_of, memory_at, memory_in}
+use Rattle.mono_model.specs.Calls.{Caller, Trap, WRITE, EFAULT, error, moved, served, sent, write_from, write_to, write_unless, write_bytes, writable, description_of, is_exit}
 use Rattle.libos_state.specs.declared.cont.Cont.{Cont}
 use Rattle.libos_state.specs.declared.cont.Stage.{Stage}
 use Rattle.libos_state.specs.declared.cont.Stage.TheVariants.{SetContext, ReadBuffer, WriteStream}
@@ -31,7 +31,7 @@ use Rattle.libos_state.specs.declared.notes.Kind.{Kind}
 use Rattle.libos_state.specs.declared.notes.Kind.TheVariants.{ConIn, ConOut, ConErr}
 use Rattle.libos_state.specs.declared.notes.ProcessNote.{ProcessNote}
 use Rattle.libos_state.specs.declared.state.LibOs.{LibOs}
-use Rattle.libos_state.specs.Records.{View, Visible, visible, base, stream_of_kind, described, described_in, description_named, descriptor_named, description_behind, description_seen, process_with, process_if, memory_of_object}
+use Rattle.libos_state.specs.Records.{View, Visible, visible, base, stream_of_kind, described, described_in, description_named, descriptor_named, description_behind, description_seen, process_with}
 use Rattle.libos_state.specs.Pending.{asked, upcall_in, argument, number, handle_of, wanted_stream}
 use Rattle.libos_state.specs.Answered.{bare, goes_on, service_with_result}
 use Rattle.libos_state.specs.Meaning.{caller_in, trap_in, stream_in, stream_described, leads_to, meaning, meant_at}
@@ -40,8 +40,9 @@ use Rattle.libos_state.specs.Fits.{FitsRecords, FitsObjects, FitsStage, FitsTrap
 use Rattle.libos_state.proofs.Holds.{Holds}
 use Rattle.libos_state.proofs.Rows.{holds_by, by_row}
 use Rattle.libos_state.proofs.Going.{FitsRecords-with_service, FitsObjects-with_service}
-use Rattle.libos_state.proofs.Naming.{list_all-find, ConsoleOf, console_of, kinds-lists, Trapped, trapped, caller_of-trapped}
-use Rattle.libos_state.proofs.Bases.{process_at-found, description_of-base}
+use Rattle.libos_state.proofs.Naming.{list_all-find, ConsoleOf, console_of, kinds-lists, Trapped, trapped}
+use Rattle.libos_state.proofs.Bases.{description_of-base}
+use Rattle.libos_state.proofs.Callers.{behind_process, caller_pid, memory-caller}
 use Rattle.libos_state.proofs.Serving.{trap_of, on_trap, named_as-no_kinds, FitsTrap-with_service, result_fits}
 use Rattle.abi_calls.specs.World as worlds
 use Rattle.libos_state.proofs.Views.{world, on_world, Answer, AnswersAs, on_contents, on_objects}
@@ -148,21 +149,10 @@ module _ (os : LibOs) (c : Cont) (v : Visible) (records : FitsRecords os) (objec
   abbrev process : ProcessNote
   process = home.links.process
 
-  pub behind_process : process_with u.process os.processes ≡ Some process
-  behind_process = ap (λ h. process_with h os.processes) home.process ∙ home.links.behind
-
-  caller_pid : (caller_in os c).process ≡ process.pid
-  caller_pid = ap (λ (x : Caller). x.process) (caller_of-trapped os v.objects u home)
-
   open_there : description_of (base os v) (caller_in os c).process (register u.context 10) ≡ Some (description_seen d)
-  open_there = ap (λ p. description_of (base os v) p (register u.context 10)) caller_pid
-      ∙ description_of-base os v u.process (register u.context 10) process records behind_process
+  open_there = ap (λ p. description_of (base os v) p (register u.context 10)) (caller_pid os c v records home)
+      ∙ description_of-base os v u.process (register u.context 10) process records (behind_process os c v records home)
       ∙ ap (option_map description_seen) write.behind
-
-  memory_is : memory_at (base os v) (caller_in os c).process ≡ home.links.memory
-  memory_is = ap (memory_at (base os v)) caller_pid
-      ∙ ap memory_in (process_at-found os v u.process process records behind_process)
-      ∙ (λ i. memory_in (Some (process_if process (memory_of_object (home.links.runs i)) (home.links.code i))))
 
   abbrev read_bytes : List ℕ
   read_bytes = bytes_from (memory_of home.links.memory) (argument c 1) (moved (argument c 2))
@@ -172,7 +162,7 @@ module _ (os : LibOs) (c : Cont) (v : Visible) (records : FitsRecords os) (objec
 
   pub served_is : served (base os v) (caller_in os c) (trap_in c) ≡ write_unless (base os v) (caller_in os c) (stream_of_kind d.kind) read_bytes read_fault
   served_is = served_write (base os v) (caller_in os c) (trap_in c) (description_seen d) write.call write.number open_there write.writable write.some
-      ∙ ap (λ s. write_unless (base os v) (caller_in os c) (stream_of_kind d.kind) (bytes_from (memory_of s) (argument c 1) (moved (argument c 2))) (first_fault (memory_of s) 1 (argument c 1) (moved (argument c 2)))) memory_is
+      ∙ ap (λ s. write_unless (base os v) (caller_in os c) (stream_of_kind d.kind) (bytes_from (memory_of s) (argument c 1) (moved (argument c 2))) (first_fault (memory_of s) 1 (argument c 1) (moved (argument c 2)))) (memory-caller os c v records home)
 
   abbrev open_named : NamedBy os.descriptions d
   open_named = behind_named os (register u.context 10) (process_with u.process os.processes) d write.behind

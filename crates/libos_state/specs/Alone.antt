@@ -1,6 +1,6 @@
 -- What fits by itself: the library OS, and a service in progress; each with a test beside it, which
 -- looks at no world. What joins them to the objects of a world stands apart.
-use Rattle.std.specs.Prelude.{◌≡◌, ℕ, ◌==◌, Bool, true, false, not, ◌&&◌, ◌||◌, List, [], ◌∷◌, map, length, is_some, nat_le, nat_lt}
+use Rattle.std.specs.Prelude.{◌≡◌, ℕ, ◌+◌, ◌==◌, Bool, true, false, not, ◌&&◌, ◌||◌, List, [], ◌∷◌, map, length, is_some, nat_le, nat_lt}
 use Rattle.std.specs.List.{list_all}
 use Rattle.std.specs.Option.{option_map}
 use Rattle.std.specs.Str.{bytes_eq}
@@ -11,12 +11,14 @@ use Rattle.abi_calls.specs.Objects.{Objects, object_at, is_thread_of}
 use Rattle.abi_calls.specs.Processes.{is_acceptable}
 use Rattle.mono_model.specs.Machine.{register}
 use Rattle.mono_model.specs.Calls.{moved}
+use Rattle.mono_model.specs.Mapping.{MOST_PAGES, FIRST_MAPPED}
+use Rattle.mono_model.specs.Starting.{STACK_PAGE}
 use Rattle.elf_loader.specs.Refusal.{refusal}
 use Rattle.libos_state.specs.declared.cont.Cont.{Cont}
 use Rattle.libos_state.specs.declared.cont.Event.{Event}
 use Rattle.libos_state.specs.declared.cont.Event.TheVariants as event
 use Rattle.libos_state.specs.declared.cont.Stage.{Stage}
-use Rattle.libos_state.specs.declared.cont.Stage.TheVariants.{CloseHandles, ExitProcess, WriteStream, Configure, OpenConsole, ReadProgram, CreateProcess, AllocateRun, WriteRun, ProtectRun, AllocateStack, WriteBlock, CreateThread, CreateEvent, StartThread}
+use Rattle.libos_state.specs.declared.cont.Stage.TheVariants.{CloseHandles, ExitProcess, WriteStream, AllocatePages, FreePages, ProtectPages, Configure, OpenConsole, ReadProgram, CreateProcess, AllocateRun, WriteRun, ProtectRun, AllocateStack, WriteBlock, CreateThread, CreateEvent, StartThread}
 use Rattle.libos_state.specs.declared.state.Boot.{Boot}
 use Rattle.libos_state.specs.declared.state.Boot.TheVariants as boot
 use Rattle.libos_state.specs.declared.state.LibOs.{LibOs}
@@ -156,6 +158,13 @@ abbrev pub is_zero_alone : List ℕ → Bool
 is_zero_alone (n ∷ []) = n == 0
 is_zero_alone _ = false
 
+-- The test of `KeepsPages`.
+abbrev pub keeps_pages : Cont → Bool
+keeps_pages c =
+    nat_le 1 (number c 1)
+    && (nat_le (number c 1) MOST_PAGES
+    && (nat_le FIRST_MAPPED (number c 0) && nat_le (number c 0 + number c 1) STACK_PAGE))
+
 -- The tests of what is kept of a program: that the loader takes it, the number of one of its runs,
 -- and how far that run is written.
 abbrev pub keeps_program : Cont → Bool
@@ -174,6 +183,9 @@ fits_kept os c ExitProcess = keeps_code os c c.numbers
 fits_kept os c WriteStream =
     is_zero_alone c.numbers
     && length c.bytes == moved (register (upcall_in c.event).context 12)
+fits_kept os c AllocatePages = keeps_pages c
+fits_kept os c FreePages = nat_le 1 (number c 1)
+fits_kept os c ProtectPages = nat_le 1 (number c 1)
 fits_kept os c Configure = is_acceptable os.settings
 fits_kept os c ReadProgram = keeps_size c c.numbers
 fits_kept os c CreateProcess = keeps_program c

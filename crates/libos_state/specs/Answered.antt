@@ -1,21 +1,22 @@
 -- What a service does on a reply, and what a reply changes of the records: one row for each stage.
 -- A reply that the stage doesn't list ends the service; no host that keeps to its contract gives
 -- one.
-use Rattle.std.specs.Prelude.{ℕ, ◌+◌, ◌==◌, false, if◌then◌else◌, List, [], ◌∷◌, ◌++◌, length, take, drop, nat_lt, nat_le}
+use Rattle.std.specs.Prelude.{ℕ, ◌+◌, ◌*◌, ◌==◌, if◌then◌else◌, List, [], ◌∷◌, ◌++◌, length, take, drop, nat_lt, nat_le, false}
 use Rattle.std.specs.declared.option.Option.{Option}
 use Rattle.std.specs.declared.option.Option.TheVariants.{None, Some}
 use Rattle.std.specs.declared.result.Result.{Result}
 use Rattle.std.specs.declared.result.Result.TheVariants.{Ok, Err}
 use Rattle.abi_calls.specs.declared.reply.Reply.{Reply}
-use Rattle.abi_calls.specs.declared.reply.Reply.TheVariants.{Done, Handle, Bytes, Count, Length, BadAddress, NoAccess}
+use Rattle.abi_calls.specs.declared.reply.Reply.TheVariants.{Done, Handle, Bytes, Count, Length, Exists, BadAddress, NoAccess, NoRoom}
 use Rattle.mono_model.specs.Machine.{returned}
-use Rattle.mono_model.specs.Calls.{error, EFAULT}
+use Rattle.mono_model.specs.Calls.{error, ENOMEM, EFAULT, EINVAL}
+use Rattle.mono_model.specs.Starting.{STACK_PAGE}
 use Rattle.elf_loader.specs.declared.ElfError.{ElfError}
 use Rattle.elf_loader.specs.declared.Program.{Program}
 use Rattle.elf_loader.specs.Image.{loaded}
 use Rattle.libos_state.specs.declared.cont.Cont.{Cont}
 use Rattle.libos_state.specs.declared.cont.Stage.{Stage}
-use Rattle.libos_state.specs.declared.cont.Stage.TheVariants.{SetContext, Resume, CloseHandles, ExitProcess, ReadBuffer, WriteStream, Configure, OpenConsole, OpenProgram, ProgramLength, ReadProgram, CloseProgram, CreateProcess, AllocateRun, WriteRun, ProtectRun, AllocateStack, WriteBlock, CreateThread, CreateEvent, StartThread}
+use Rattle.libos_state.specs.declared.cont.Stage.TheVariants.{SetContext, Resume, CloseHandles, ExitProcess, ReadBuffer, WriteStream, AllocatePages, FreePages, ProtectPages, Configure, OpenConsole, OpenProgram, ProgramLength, ReadProgram, CloseProgram, CreateProcess, AllocateRun, WriteRun, ProtectRun, AllocateStack, WriteBlock, CreateThread, CreateEvent, StartThread}
 use Rattle.libos_state.specs.declared.notes.Description.{Description}
 use Rattle.libos_state.specs.declared.notes.DescriptorNote.{DescriptorNote}
 use Rattle.libos_state.specs.declared.notes.ProcessNote.{ProcessNote}
@@ -72,6 +73,19 @@ bare c stage = record {
 abbrev pub service_with_result : Cont → ℕ → Cont
 service_with_result c result =
     record (bare c SetContext) { next = returned (upcall_in c.event).context result }
+
+-- The pages are looked for from a page on, below the stack.
+abbrev pub service_mapping : Cont → ℕ → ℕ → Cont
+service_mapping c page count =
+    if nat_le (page + count) STACK_PAGE
+    then record (bare c AllocatePages) { numbers = page ∷ count ∷ [] }
+    else service_with_result c (error ENOMEM)
+
+-- Pages that are there have changed, or one isn't there, which is this error.
+abbrev pub changed_step : Cont → ℕ → Reply → Step
+changed_step c refused Done = Asks (service_with_result c 0)
+changed_step c refused BadAddress = Asks (service_with_result c (error refused))
+changed_step c refused _ = Ends
 
 -- The handles of the process that ends are closed one after another, and then it exits.
 abbrev pub service_closing : Cont → List ℕ → Cont
@@ -175,6 +189,11 @@ next c ReadBuffer (Bytes bytes) =
 next c ReadBuffer BadAddress = Asks (service_with_result c (error EFAULT))
 next c ReadBuffer NoAccess = Asks (service_with_result c (error EFAULT))
 next c WriteStream (Count n) = Asks (service_with_result c n)
+next c AllocatePages Done = Asks (service_with_result c (number c 0 * 4096))
+next c AllocatePages Exists = Asks (service_mapping c (number c 0 + 1) (number c 1))
+next c AllocatePages NoRoom = Asks (service_with_result c (error ENOMEM))
+next c FreePages reply = changed_step c EINVAL reply
+next c ProtectPages reply = changed_step c ENOMEM reply
 next c Configure Done = Asks (starting c OpenConsole [] [] [])
 next c OpenConsole (Handle h) = Asks (start_opening c (c.handles ++ h ∷ []))
 next c OpenProgram (Handle h) = Asks (starting c ProgramLength [] (c.handles ++ h ∷ []) [])

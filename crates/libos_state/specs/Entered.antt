@@ -1,15 +1,17 @@
 -- How a service begins: with a trap, or with the start of a run.
-use Rattle.std.specs.Prelude.{ℕ, ◌%◌, ◌==◌, Bool, false, not, ◌&&◌, if◌then◌else◌, List, [], ◌∷◌, ◌++◌, map, filter, bit_and, replicate}
+use Rattle.std.specs.Prelude.{ℕ, ◌/◌, ◌%◌, ◌==◌, Bool, not, ◌&&◌, if◌then◌else◌, List, [], ◌∷◌, ◌++◌, map, filter, bit_and, replicate, false}
 use Rattle.std.specs.List.{list_any}
 use Rattle.std.specs.declared.option.Option.{Option}
 use Rattle.std.specs.declared.option.Option.TheVariants.{None, Some}
 use Rattle.turn_sched.specs.declared.settings.Settings.{Settings}
 use Rattle.abi_calls.specs.declared.threads.Upcall.{Upcall}
 use Rattle.mono_model.specs.Machine.{register}
-use Rattle.mono_model.specs.Calls.{WRITE, SCHED_YIELD, GETPID, GETPPID, GETTID, EBADF, ENOSYS, error, is_exit, fault_code}
+use Rattle.mono_model.specs.Calls.{WRITE, MUNMAP, MMAP, MPROTECT, EBADF, ENOSYS, error, munmap_known, mmap_known, mprotect_known, fault_code, SCHED_YIELD, GETPID, GETPPID, GETTID, is_exit}
+use Rattle.mono_model.specs.Mapping.{FIRST_MAPPED, pages_for}
 use Rattle.libos_state.specs.declared.cont.Cont.{Cont}
 use Rattle.libos_state.specs.declared.cont.Event.TheVariants as event
-use Rattle.libos_state.specs.declared.cont.Stage.TheVariants.{SetContext, ReadBuffer, Configure}
+use Rattle.libos_state.specs.declared.cont.Stage.{Stage}
+use Rattle.libos_state.specs.declared.cont.Stage.TheVariants.{SetContext, ReadBuffer, AllocatePages, FreePages, ProtectPages, Configure}
 use Rattle.libos_state.specs.declared.notes.Description.{Description}
 use Rattle.libos_state.specs.declared.notes.ProcessNote.{ProcessNote}
 use Rattle.libos_state.specs.declared.notes.ThreadNote.{ThreadNote}
@@ -96,12 +98,37 @@ known_result os u number =
     else (if number == GETTID then tid_of (thread_with u.thread os.threads)
     else error ENOSYS)))
 
+-- A call on pages: the result that its arguments alone decide, or a stage with these pages.
+abbrev pub on_pages : LibOs → Upcall → Option ℕ → Stage → ℕ → ℕ → LibOs
+on_pages os u (Some result) stage page count = result_of os u result
+on_pages os u None stage page count =
+    goes_on os (record (entered_with u) { stage = stage; numbers = page ∷ count ∷ [] })
+
+abbrev pub munmap_entered : LibOs → Upcall → LibOs
+munmap_entered os u = on_pages os u (munmap_known u.context) FreePages
+    (register u.context 10 / 4096) (pages_for (register u.context 11))
+
+abbrev pub mmap_entered : LibOs → Upcall → LibOs
+mmap_entered os u = on_pages os u (mmap_known u.context) AllocatePages
+    FIRST_MAPPED (pages_for (register u.context 11))
+
+abbrev pub mprotect_entered : LibOs → Upcall → LibOs
+mprotect_entered os u = on_pages os u (mprotect_known u.context) ProtectPages
+    (register u.context 10 / 4096) (pages_for (register u.context 11))
+
+abbrev pub memory_entered : LibOs → Upcall → ℕ → LibOs
+memory_entered os u number =
+    if number == MUNMAP then munmap_entered os u
+    else (if number == MMAP then mmap_entered os u
+    else (if number == MPROTECT then mprotect_entered os u
+    else result_of os u (known_result os u number)))
+
 abbrev pub call_entered : LibOs → Upcall → ℕ → LibOs
 call_entered os u number =
     if number == WRITE
     then write_entered os u (description_behind os u.process (register u.context 10))
     else (if is_exit number then ends_process os u (register u.context 10 % 256)
-    else result_of os u (known_result os u number))
+    else memory_entered os u number)
 
 -- The library OS that begins to serve a trap.
 abbrev pub entered : LibOs → Upcall → LibOs

@@ -1,6 +1,6 @@
 -- When the library OS fits the objects of a world: its records by themselves, the service in
 -- progress by itself, and the objects, each of which is named once.
-use Rattle.std.specs.Prelude.{◌≡◌, ℕ, ◌^◌, ◌≤◌, ◌<◌, ◌==◌, Bool, true, false, not, ◌&&◌, ◌||◌, if◌then◌else◌, List, [], ◌∷◌, ◌++◌, map, length, take, is_some, bit_and, nat_le, nat_lt}
+use Rattle.std.specs.Prelude.{◌≡◌, ℕ, ◌+◌, ◌≤◌, ◌<◌, ◌==◌, Bool, true, false, not, ◌&&◌, ◌||◌, if◌then◌else◌, List, [], ◌∷◌, ◌++◌, map, length, take, is_some, bit_and, nat_le, nat_lt, ◌^◌}
 use Rattle.std.specs.List.{list_all, list_any}
 use Rattle.std.specs.declared.option.Option.{Option}
 use Rattle.std.specs.declared.option.Option.TheVariants.{None, Some}
@@ -14,7 +14,8 @@ use Rattle.abi_calls.specs.declared.threads.Upcall.{Upcall}
 use Rattle.abi_calls.specs.Objects.{Object, Objects, object_at, running, is_thread_of}
 use Rattle.abi_calls.specs.Processes.{is_acceptable}
 use Rattle.mono_model.specs.Machine.{register}
-use Rattle.mono_model.specs.Calls.{WRITE, is_exit, moved}
+use Rattle.mono_model.specs.Calls.{WRITE, MUNMAP, MMAP, MPROTECT, moved, munmap_known, mmap_known, mprotect_known, is_exit}
+use Rattle.mono_model.specs.Mapping.{MOST_PAGES, FIRST_MAPPED}
 use Rattle.elf_loader.specs.Image.{extent_of}
 use Rattle.elf_loader.specs.Refusal.{refusal}
 use Rattle.mono_model.specs.Starting.{STACK_PAGE, STACK_PAGES}
@@ -22,7 +23,7 @@ use Rattle.libos_state.specs.declared.cont.Cont.{Cont}
 use Rattle.libos_state.specs.declared.cont.Event.{Event}
 use Rattle.libos_state.specs.declared.cont.Event.TheVariants as event
 use Rattle.libos_state.specs.declared.cont.Stage.{Stage}
-use Rattle.libos_state.specs.declared.cont.Stage.TheVariants.{SetContext, Resume, CloseHandles, ExitProcess, ReadBuffer, WriteStream, Configure, OpenConsole, OpenProgram, ProgramLength, ReadProgram, CreateProcess, AllocateRun, WriteRun, ProtectRun, AllocateStack, WriteBlock, CreateThread, CreateEvent, StartThread}
+use Rattle.libos_state.specs.declared.cont.Stage.TheVariants.{SetContext, Resume, CloseHandles, ExitProcess, ReadBuffer, WriteStream, AllocatePages, FreePages, ProtectPages, Configure, OpenConsole, OpenProgram, ProgramLength, ReadProgram, CreateProcess, AllocateRun, WriteRun, ProtectRun, AllocateStack, WriteBlock, CreateThread, CreateEvent, StartThread}
 use Rattle.libos_state.specs.declared.notes.Description.{Description}
 use Rattle.libos_state.specs.declared.notes.Kind.{Kind}
 use Rattle.libos_state.specs.declared.notes.Kind.TheVariants.{ConIn, ConOut, ConErr}
@@ -154,6 +155,9 @@ is_of_start CloseHandles = false
 is_of_start ExitProcess = false
 is_of_start ReadBuffer = false
 is_of_start WriteStream = false
+is_of_start AllocatePages = false
+is_of_start FreePages = false
+is_of_start ProtectPages = false
 is_of_start _ = true
 
 -- The trap is the system call of this number.
@@ -181,6 +185,10 @@ is_recorded os u = is_some (thread_with u.thread os.threads)
 abbrev pub returns : LibOs → Upcall → Bool
 returns os u = u.cause == 8 && (not (is_exit_call u) && is_recorded os u)
 
+-- A call whose result its arguments alone don't decide, of a thread that has a record.
+abbrev pub is_undecided : LibOs → Upcall → ℕ → Option ℕ → Bool
+is_undecided os u number known = is_call u number && (not (is_some known) && is_recorded os u)
+
 -- The trap comes to this stage. Its thread has a record, but where the process ends.
 abbrev pub comes_to : LibOs → Upcall → Stage → Bool
 comes_to os u SetContext = returns os u
@@ -189,6 +197,9 @@ comes_to os u CloseHandles = not (u.cause == 8) || is_exit_call u
 comes_to os u ExitProcess = not (u.cause == 8) || is_exit_call u
 comes_to os u ReadBuffer = writes os u && is_recorded os u
 comes_to os u WriteStream = writes os u && is_recorded os u
+comes_to os u AllocatePages = is_undecided os u MMAP (mmap_known u.context)
+comes_to os u FreePages = is_undecided os u MUNMAP (munmap_known u.context)
+comes_to os u ProtectPages = is_undecided os u MPROTECT (mprotect_known u.context)
 comes_to os u _ = false
 
 -- A trap of a thread of a process is served; the thread is current.
@@ -230,6 +241,9 @@ keeps_bytes Resume = false
 keeps_bytes CloseHandles = false
 keeps_bytes ExitProcess = false
 keeps_bytes ReadBuffer = false
+keeps_bytes AllocatePages = false
+keeps_bytes FreePages = false
+keeps_bytes ProtectPages = false
 keeps_bytes Configure = false
 keeps_bytes OpenConsole = false
 keeps_bytes OpenProgram = false
@@ -240,6 +254,9 @@ abbrev pub numbers_at : Stage → ℕ
 numbers_at CloseHandles = 1
 numbers_at ExitProcess = 1
 numbers_at WriteStream = 1
+numbers_at AllocatePages = 2
+numbers_at FreePages = 2
+numbers_at ProtectPages = 2
 numbers_at ReadProgram = 1
 numbers_at AllocateRun = 1
 numbers_at WriteRun = 2
@@ -285,6 +302,13 @@ pub record KeepsCode (os : LibOs) (c : Cont) : Type 0 where
   pub byte : code < 256
   pub ended : is_ended_with (process_with (upcall_in c.event).process os.processes) code ≡ true
 
+-- Where so many pages are looked for: above the first that mmap gives, and below the stack.
+pub record KeepsPages (c : Cont) : Type 0 where
+  pub some : 1 ≤ number c 1
+  pub few : number c 1 ≤ MOST_PAGES
+  pub above : FIRST_MAPPED ≤ number c 0
+  pub below : number c 0 + number c 1 ≤ STACK_PAGE
+
 -- So many bytes of the program's file were read, of so many.
 pub record KeepsSize (c : Cont) : Type 0 where
   pub size : ℕ
@@ -311,6 +335,9 @@ FitsKept os c CloseHandles = KeepsCode os c
 FitsKept os c ExitProcess = KeepsCode os c
 FitsKept os c WriteStream =
     (c.numbers ≡ 0 ∷ []) × (length c.bytes ≡ moved (register (upcall_in c.event).context 12))
+FitsKept os c AllocatePages = KeepsPages c
+FitsKept os c FreePages = 1 ≤ number c 1
+FitsKept os c ProtectPages = 1 ≤ number c 1
 FitsKept os c Configure = is_acceptable os.settings ≡ true
 FitsKept os c ReadProgram = KeepsSize c
 FitsKept os c CreateProcess = KeepsProgram c

@@ -1,13 +1,20 @@
--- What the calls of a service rest on: the ends of the console, the program with the run that is
+-- What the calls of a service rest on: pages and rights, the ends of the console, the program with the run that is
 -- loaded and how far it is written, and the names.
-use Rattle.std.specs.Prelude.{◌<◌, IfSome, length}
+use Rattle.std.specs.Prelude.{◌≤◌, ◌<◌, IfSome, length}
 use Rattle.libos_state.specs.declared.cont.Cont.{Cont}
 use Rattle.libos_state.specs.declared.cont.Stage.{Stage}
-use Rattle.libos_state.specs.declared.cont.Stage.TheVariants.{OpenConsole, CreateProcess, AllocateRun, WriteRun, ProtectRun, WriteBlock, CreateThread, StartThread}
+use Rattle.libos_state.specs.declared.cont.Stage.TheVariants.{AllocatePages, ProtectPages, OpenConsole, CreateProcess, AllocateRun, WriteRun, ProtectRun, WriteBlock, CreateThread, StartThread}
 use Rattle.libos_state.specs.declared.state.LibOs.{LibOs}
-use Rattle.libos_state.specs.Fits.{FitsNames, KeepsProgram, KeepsRun, KeepsPlace}
+use Rattle.libos_state.specs.Pending.{argument}
+use Rattle.libos_state.specs.Fits.{FitsNames, KeepsPages, KeepsProgram, KeepsRun, KeepsPlace}
+
+-- The rights in a2 are some that there are.
+abbrev pub HasRights : Cont → Type 0
+HasRights c = argument c 2 ≤ 7
 
 abbrev pub KeptAt : Cont → Stage → Type 0
+KeptAt c AllocatePages = KeepsPages c × HasRights c
+KeptAt c ProtectPages = HasRights c
 KeptAt c OpenConsole = length c.handles < 3
 KeptAt c CreateProcess = KeepsProgram c
 KeptAt c AllocateRun = KeepsRun c

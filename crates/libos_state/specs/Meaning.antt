@@ -13,11 +13,11 @@ use Rattle.abi_calls.specs.Streams.{stream_of}
 use Rattle.abi_calls.specs.declared.threads.Upcall.{Upcall}
 use Rattle.mono_model.specs.Machine.{Mono, resumed, made_ready}
 use Rattle.mono_model.specs.Written.{Written, nothing}
-use Rattle.mono_model.specs.Calls.{Caller, Trap, Served, served, write_bytes}
+use Rattle.mono_model.specs.Calls.{Caller, Trap, Served, silently, served, write_bytes, map_from, free_pages, protect_pages}
 use Rattle.mono_model.specs.Starting.{Job, Started, Runs, NoProgram, BadProgram, blank_under, started, started_with, begun, start_context, loaded, filled_from, with_rights_of, stacked, with_block}
 use Rattle.libos_state.specs.declared.cont.Cont.{Cont}
 use Rattle.libos_state.specs.declared.cont.Stage.{Stage}
-use Rattle.libos_state.specs.declared.cont.Stage.TheVariants.{SetContext, Resume, CloseHandles, ExitProcess, ReadBuffer, WriteStream, Configure, OpenConsole, OpenProgram, ProgramLength, ReadProgram, CloseProgram, CreateProcess, AllocateRun, WriteRun, ProtectRun, AllocateStack, WriteBlock, CreateThread, CreateEvent, StartThread}
+use Rattle.libos_state.specs.declared.cont.Stage.TheVariants.{SetContext, Resume, CloseHandles, ExitProcess, ReadBuffer, WriteStream, AllocatePages, FreePages, ProtectPages, Configure, OpenConsole, OpenProgram, ProgramLength, ReadProgram, CloseProgram, CreateProcess, AllocateRun, WriteRun, ProtectRun, AllocateStack, WriteBlock, CreateThread, CreateEvent, StartThread}
 use Rattle.libos_state.specs.declared.notes.Description.{Description}
 use Rattle.libos_state.specs.declared.state.Boot.{Boot}
 use Rattle.libos_state.specs.declared.state.Boot.TheVariants as boot
@@ -108,6 +108,12 @@ meant_at os w c ExitProcess = settles (Runs (base os w))
 meant_at os w c ReadBuffer = leads_to (served (base os w) (caller_in os c) (trap_in c))
 meant_at os w c WriteStream =
     leads_to (write_bytes (base os w) (caller_in os c) (stream_in os c) c.bytes)
+meant_at os w c AllocatePages =
+    leads_to (silently (map_from (base os w) (caller_in os c) (number c 0) (number c 1)))
+meant_at os w c FreePages =
+    leads_to (silently (free_pages (base os w) (caller_in os c) (number c 0) (number c 1)))
+meant_at os w c ProtectPages =
+    leads_to (silently (protect_pages (base os w) (caller_in os c) (number c 0) (number c 1)))
 meant_at os w c Configure =
     settles (started (blank_under w.rules os.settings no_positions w.contents) (job_in c))
 meant_at os w c OpenConsole = settles (started (unstarted w) (job_in c))

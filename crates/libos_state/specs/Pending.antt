@@ -3,7 +3,7 @@ use Rattle.std.specs.Prelude.{ℕ, ◌+◌, ◌-◌, ◌*◌, ◌%◌, ◌==◌,
 use Rattle.std.specs.declared.option.Option.{Option}
 use Rattle.std.specs.declared.option.Option.TheVariants.{None, Some}
 use Rattle.abi_calls.specs.declared.call.Call.{Call}
-use Rattle.abi_calls.specs.declared.call.Call.TheVariants.{MemoryAllocate, MemoryProtect, MemoryRead, MemoryWrite, ThreadCreate, ThreadResume, ThreadContext, EventCreate, StreamOpen, StreamRead, StreamWrite, StreamLength, Close, ProcessCreate, ProcessExit, Configure}
+use Rattle.abi_calls.specs.declared.call.Call.TheVariants.{MemoryAllocate, MemoryFree, MemoryProtect, MemoryRead, MemoryWrite, ThreadCreate, ThreadResume, ThreadContext, EventCreate, StreamOpen, StreamRead, StreamWrite, StreamLength, Close, ProcessCreate, ProcessExit, Configure}
 use Rattle.bas_names.specs.declared.StreamName.{StreamName}
 use Rattle.bas_names.specs.declared.StreamName.TheVariants.{File, ConIn, ConOut, ConErr}
 use Rattle.turn_sched.specs.declared.settings.Positions.{Positions}
@@ -18,7 +18,7 @@ use Rattle.libos_state.specs.declared.cont.Cont.{Cont}
 use Rattle.libos_state.specs.declared.cont.Event.{Event}
 use Rattle.libos_state.specs.declared.cont.Event.TheVariants.{Boot, Up}
 use Rattle.libos_state.specs.declared.cont.Stage.{Stage}
-use Rattle.libos_state.specs.declared.cont.Stage.TheVariants.{SetContext, Resume, CloseHandles, ExitProcess, ReadBuffer, WriteStream, OpenConsole, OpenProgram, ProgramLength, ReadProgram, CloseProgram, CreateProcess, AllocateRun, WriteRun, ProtectRun, AllocateStack, WriteBlock, CreateThread, CreateEvent, StartThread}
+use Rattle.libos_state.specs.declared.cont.Stage.TheVariants.{SetContext, Resume, CloseHandles, ExitProcess, ReadBuffer, WriteStream, AllocatePages, FreePages, ProtectPages, OpenConsole, OpenProgram, ProgramLength, ReadProgram, CloseProgram, CreateProcess, AllocateRun, WriteRun, ProtectRun, AllocateStack, WriteBlock, CreateThread, CreateEvent, StartThread}
 use Rattle.libos_state.specs.declared.cont.Stage.TheVariants as stage
 use Rattle.libos_state.specs.declared.notes.Description.{Description}
 use Rattle.libos_state.specs.declared.state.LibOs.{LibOs}
@@ -97,6 +97,11 @@ asked os c CloseHandles = Close (handle c 0)
 asked os c ExitProcess = ProcessExit (upcall_in c.event).process (number c 0 % 256)
 asked os c ReadBuffer = MemoryRead (upcall_in c.event).process (argument c 1) (moved (argument c 2))
 asked os c WriteStream = StreamWrite (wanted_stream os c) (number c 0) c.bytes
+asked os c AllocatePages =
+    MemoryAllocate (upcall_in c.event).process (number c 0) (number c 1) (argument c 2)
+asked os c FreePages = MemoryFree (upcall_in c.event).process (number c 0) (number c 1)
+asked os c ProtectPages =
+    MemoryProtect (upcall_in c.event).process (number c 0) (number c 1) (argument c 2)
 asked os c stage.Configure = Configure os.settings no_positions
 asked os c OpenConsole = StreamOpen (console_name (length c.handles)) false false
 asked os c OpenProgram = StreamOpen (File (program_name c)) false false

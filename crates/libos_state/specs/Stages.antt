@@ -1,7 +1,7 @@
 -- The numbers that the format of images has for the stages.
 use Rattle.std.specs.Prelude.{ℕ}
 use Rattle.libos_state.specs.declared.cont.Stage.{Stage}
-use Rattle.libos_state.specs.declared.cont.Stage.TheVariants.{SetContext, Resume, CloseHandles, ExitProcess, ReadBuffer, WriteStream, Configure, OpenConsole, OpenProgram, ProgramLength, ReadProgram, CloseProgram, CreateProcess, AllocateRun, WriteRun, ProtectRun, AllocateStack, WriteBlock, CreateThread, CreateEvent, StartThread}
+use Rattle.libos_state.specs.declared.cont.Stage.TheVariants.{SetContext, Resume, CloseHandles, ExitProcess, ReadBuffer, WriteStream, AllocatePages, FreePages, ProtectPages, Configure, OpenConsole, OpenProgram, ProgramLength, ReadProgram, CloseProgram, CreateProcess, AllocateRun, WriteRun, ProtectRun, AllocateStack, WriteBlock, CreateThread, CreateEvent, StartThread}
 
 abbrev pub number_of : Stage → ℕ
 number_of SetContext = 1
@@ -10,6 +10,9 @@ number_of CloseHandles = 8
 number_of ExitProcess = 9
 number_of ReadBuffer = 20
 number_of WriteStream = 22
+number_of AllocatePages = 30
+number_of FreePages = 31
+number_of ProtectPages = 32
 number_of Configure = 41
 number_of OpenConsole = 42
 number_of OpenProgram = 43

@@ -29,6 +29,12 @@ pub enum Stage {
     ReadBuffer,
     /// The bytes are written to the stream.
     WriteStream,
+    /// Pages of the caller's process are made.
+    AllocatePages,
+    /// Pages of the caller's process go.
+    FreePages,
+    /// Pages of the caller's process get other rights.
+    ProtectPages,
     /// The host gets the settings.
     Configure,
     /// The console's input, output and errors are opened.
@@ -77,6 +83,7 @@ pub struct Cont {
     pub handles: Items<u64>,
     /// Handles of other processes, to be closed behind the one that ends. No stage keeps any yet.
     pub later: Items<u64>,
-    /// An exit code, an offset, a length, the number of a run, or that and how far it is written.
+    /// An exit code, an offset, a length, a page and a count of pages, the number of a run, or that and how far it is
+    /// written.
     pub numbers: Items<u64>,
 }

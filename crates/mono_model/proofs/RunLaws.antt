@@ -1,9 +1,9 @@
 -- How a run goes on, and how it ends.
-use Rattle.std.proofs.Common.{◌≡◌, ℕ, zero, suc, Bool, true, false, List, ◌++◌, refl, sym, ap, ◌∙◌, append_assoc}
+use Rattle.std.proofs.Common.{◌≡◌, ℕ, zero, suc, true, false, ap, append_assoc}
 use Rattle.std.specs.declared.option.Option.TheVariants.{None, Some}
 use Rattle.mono_model.specs.Machine.{Mono, exit_code}
 use Rattle.mono_model.specs.Written.{Written, and_then}
-use Rattle.mono_model.specs.Turns.{Exited, Bound, Stuck, Ending, ends_as, behind, is_stuck, turn_of, run_of, run_on, run_stopped}
+use Rattle.mono_model.specs.Turns.{Exited, Bound, Stuck, ends_as, behind, is_stuck, turn_of, run_of, run_on, run_stopped}
 
 -- process 1 has exited
 pub run_of-exited : (n : ℕ) (m : Mono) (code : ℕ) → exit_code m 1 ≡ Some code → run_of n m ≡ ends_as (Exited code) m

@@ -1,10 +1,10 @@
 -- How large the argument block is, and where it stands.
-use Rattle.std.specs.Prelude.{◌≡◌, ℕ, ◌+◌, ◌-◌, ◌*◌, ◌/◌, ◌^◌, ◌≤◌, true, ◌&&◌, nat_le, List, [], ◌∷◌, ◌++◌, length, take, drop, replicate, sum_by}
+use Rattle.std.specs.Prelude.{◌≡◌, ℕ, ◌+◌, ◌-◌, ◌*◌, ◌/◌, ◌≤◌, true, nat_le, List, [], ◌∷◌, ◌++◌, length, replicate, sum_by}
 use Rattle.std.specs.List.{list_all, flat_map}
 use Rattle.std.specs.Int.{to_le_bytes, w64}
-use Rattle.std.proofs.Common.{refl, ◌∙◌, arith, leb-true, length-append, length-drop}
+use Rattle.std.proofs.Common.{refl, arith, leb-true, length-append}
 use Rattle.std.proofs.lemmas.Bool.{and_parts}
-use Rattle.std.proofs.lemmas.List.{length-replicate, length_push}
+use Rattle.std.proofs.lemmas.List.{length_push}
 use Rattle.std.proofs.lemmas.List.Sums.{sum_by-cons}
 use Rattle.mono_model.specs.Starting.{STACK_PAGE, STACK_PAGES, STACK_END, block_size, stack_pointer, pointers, block_at, argument_block}
 

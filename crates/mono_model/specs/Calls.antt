@@ -1,19 +1,20 @@
 -- What a trapped thread's system call or fault does, in one step on whole texts, and what it
 -- writes. The numbers of the calls and of the errors are Linux's generic ones. The number stands in
 -- a7, arguments in a0 to a5, the result in a0.
-use Rattle.std.specs.Prelude.{ℕ, ◌-◌, ◌%◌, ◌^◌, ◌==◌, Bool, false, not, ◌&&◌, ◌||◌, if◌then◌else◌, List, [], map, filter, length, min, bit_and}
+use Rattle.std.specs.Prelude.{ℕ, ◌+◌, ◌-◌, ◌*◌, ◌/◌, ◌%◌, ◌^◌, ◌==◌, Bool, false, not, ◌&&◌, ◌||◌, nat_lt, if◌then◌else◌, List, [], map, filter, length, min, bit_and}
 use Rattle.std.specs.List.{list_any}
 use Rattle.std.specs.Ordering.{nat_cmp}
-use Rattle.std.specs.FinMap.{FinMap, get, insert, empty, entries, values, retain_keys}
+use Rattle.std.specs.FinMap.{get, insert, empty, entries, values, retain_keys, len, FinMap}
 use Rattle.std.specs.declared.option.Option.{Option}
 use Rattle.std.specs.declared.option.Option.TheVariants.{None, Some}
 use Rattle.rv_core.specs.declared.context.Context.{Context}
-use Rattle.guest_space.specs.Space.{Space, memory_of, bytes_from}
+use Rattle.guest_space.specs.Space.{Space, memory_of, bytes_from, with_run, without_run, protected}
 use Rattle.guest_space.specs.Access.{AccessFault, first_fault}
 use Rattle.bas_names.specs.declared.StreamName.{StreamName}
 use Rattle.bas_names.specs.declared.StreamName.TheVariants.{File, ConIn, ConOut, ConErr}
 use Rattle.turn_sched.specs.Lists.{contains}
-use Rattle.mono_model.specs.Machine.{Mono, Process, Description, Target, Opened, Exits, Wakes, Gone, Waiter, exited, returned, register, resumed, process_at, is_thread_in}
+use Rattle.mono_model.specs.Machine.{Mono, Process, Description, Target, Opened, Exits, Wakes, Gone, Waiter, exited, returned, register, resumed, process_at, with_memory_in, is_thread_in}
+use Rattle.mono_model.specs.Mapping.{MOST_PAGES, FIRST_MAPPED, is_page_start, pages_for, is_whole, lowest_free}
 use Rattle.mono_model.specs.Written.{Written, nothing}
 
 -- The system calls that there are so far.
@@ -38,12 +39,27 @@ GETPPID = 173
 abbrev pub GETTID : ℕ
 GETTID = 178
 
+abbrev pub MUNMAP : ℕ
+MUNMAP = 215
+
+abbrev pub MMAP : ℕ
+MMAP = 222
+
+abbrev pub MPROTECT : ℕ
+MPROTECT = 226
+
 -- Errors.
 abbrev pub EBADF : ℕ
 EBADF = 9
 
+abbrev pub ENOMEM : ℕ
+ENOMEM = 12
+
 abbrev pub EFAULT : ℕ
 EFAULT = 14
+
+abbrev pub EINVAL : ℕ
+EINVAL = 22
 
 abbrev pub ENOSYS : ℕ
 ENOSYS = 38
@@ -134,6 +150,79 @@ write_to m who (Some stream) =
 abbrev pub write : Mono → Caller → Served
 write m who = write_to m who (writable (description_of m who.process (register who.context 10)))
 
+-- The caller's process has other pages, and the call gives a result.
+abbrev pub finished_with : Mono → Caller → Space → ℕ → Mono
+finished_with m who s result =
+    finished (with_memory_in m who.process s (process_at m who.process)) who result
+
+-- A result that the arguments alone decide, or what else is done.
+abbrev pub unless_known : Mono → Caller → Option ℕ → Mono → Mono
+unless_known m who None goes = goes
+unless_known m who (Some result) goes = finished m who result
+
+-- munmap(a, n): EINVAL where a isn't the address of a page, or n is 0.
+abbrev pub munmap_known : Context → Option ℕ
+munmap_known cx =
+    if not (is_page_start (register cx 10)) || register cx 11 == 0 then Some (error EINVAL)
+    else None
+
+-- The pages of the run go; EINVAL where one isn't there.
+abbrev pub free_pages : Mono → Caller → ℕ → ℕ → Mono
+free_pages m who page count =
+    let s = memory_at m who.process in
+    if is_whole s page count then finished_with m who (without_run s page count) 0
+    else finished m who (error EINVAL)
+
+abbrev pub munmap : Mono → Caller → Mono
+munmap m who = unless_known m who (munmap_known who.context)
+    (free_pages m who (register who.context 10 / 4096) (pages_for (register who.context 11)))
+
+-- mprotect(a, n, prot): EINVAL where a isn't the address of a page, or prot is past 7. Of no bytes
+-- it gives 0.
+abbrev pub mprotect_known : Context → Option ℕ
+mprotect_known cx =
+    if not (is_page_start (register cx 10)) || nat_lt 7 (register cx 12)
+    then Some (error EINVAL)
+    else (if register cx 11 == 0 then Some 0 else None)
+
+-- The pages of the run get the rights prot; ENOMEM where one isn't there.
+abbrev pub protect_pages : Mono → Caller → ℕ → ℕ → Mono
+protect_pages m who page count =
+    let s = memory_at m who.process in
+    if is_whole s page count
+    then finished_with m who (protected s page count (register who.context 12)) 0
+    else finished m who (error ENOMEM)
+
+abbrev pub mprotect : Mono → Caller → Mono
+mprotect m who = unless_known m who (mprotect_known who.context)
+    (protect_pages m who (register who.context 10 / 4096) (pages_for (register who.context 11)))
+
+-- mmap(-, n, prot, flags, -, -): EINVAL where n is 0, prot is past 7, or flags aren't 0x22; ENOMEM
+-- where the run has more pages than a process may have.
+abbrev pub mmap_known : Context → Option ℕ
+mmap_known cx =
+    if register cx 11 == 0 || (nat_lt 7 (register cx 12) || not (register cx 13 == 0x22))
+    then Some (error EINVAL)
+    else (if nat_lt MOST_PAGES (pages_for (register cx 11)) then Some (error ENOMEM) else None)
+
+-- Pages of zeros with the rights prot, whose address is the result; ENOMEM where there is no such
+-- run, or the process would have too many pages.
+abbrev pub map_pages : Mono → Caller → ℕ → Option ℕ → Mono
+map_pages m who count None = finished m who (error ENOMEM)
+map_pages m who count (Some page) =
+    let s = memory_at m who.process in
+    if nat_lt MOST_PAGES (len s + count) then finished m who (error ENOMEM)
+    else finished_with m who (with_run s page count (register who.context 12)) (page * 4096)
+
+-- mmap, where only runs from a page on are looked at.
+abbrev pub map_from : Mono → Caller → ℕ → ℕ → Mono
+map_from m who from count =
+    map_pages m who count (lowest_free (memory_at m who.process) from count)
+
+abbrev pub mmap : Mono → Caller → Mono
+mmap m who = unless_known m who (mmap_known who.context)
+    (map_from m who FIRST_MAPPED (pages_for (register who.context 11)))
+
 -- A descriptor of a process other than p names the description.
 abbrev pub names_description : ℕ → ℕ → ℕ × Process → Bool
 names_description p id entry =
@@ -200,11 +289,19 @@ known_result m who number =
     else (if number == GETTID then who.thread
     else error ENOSYS)))
 
+-- The calls on a process's pages, and those whose result is known.
+abbrev pub memory_call : Mono → Caller → ℕ → Mono
+memory_call m who number =
+    if number == MUNMAP then munmap m who
+    else (if number == MMAP then mmap m who
+    else (if number == MPROTECT then mprotect m who
+    else finished m who (known_result m who number)))
+
 abbrev pub system_call : Mono → Caller → ℕ → Served
 system_call m who number =
     if number == WRITE then write m who
     else (if is_exit number then silently (exit m who)
-    else silently (finished m who (known_result m who number)))
+    else silently (memory_call m who number))
 
 -- The exit code of a process that a fault ends, by the cause: 132 an illegal instruction, 133 a
 -- breakpoint, 135 a misaligned instruction address, 139 an access.

@@ -1,7 +1,7 @@
 -- The monolithic machine: processes, threads and open descriptions by their ids, where its threads
 -- stand, the files and the input, and the lists of rules that a file's name passes. It has no
 -- output: what is written is what a turn answers.
-use Rattle.std.specs.Prelude.{ℕ, ◌+◌, ◌-◌, ◌%◌, ◌^◌, ◌==◌, Bool, false, List, [], ◌∷◌, slice_index, slice_set}
+use Rattle.std.specs.Prelude.{ℕ, ◌+◌, ◌-◌, ◌%◌, ◌^◌, ◌==◌, Bool, false, List, slice_index, slice_set}
 use Rattle.std.specs.Ordering.{nat_cmp}
 use Rattle.std.specs.FinMap.{FinMap, get, insert, empty}
 use Rattle.std.specs.declared.option.Option.{Option}
@@ -85,6 +85,11 @@ thread_at m t = get {R = nat_cmp} m.threads t
 
 abbrev pub with_process : Mono → ℕ → Process → Mono
 with_process m p process = record m { processes = insert m.processes p process }
+
+-- The process has these pages.
+abbrev pub with_memory_in : Mono → ℕ → Space → Option Process → Mono
+with_memory_in m p s None = m
+with_memory_in m p s (Some process) = with_process m p (record process { memory = s })
 
 abbrev pub with_thread : Mono → ℕ → Thread → Mono
 with_thread m t thread = record m { threads = insert m.threads t thread }

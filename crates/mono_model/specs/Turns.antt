@@ -4,11 +4,10 @@ use Rattle.std.specs.List.{list_any}
 use Rattle.std.specs.declared.option.Option.{Option}
 use Rattle.std.specs.declared.option.Option.TheVariants.{None, Some}
 use Rattle.rv_core.specs.declared.context.Context.{Context}
-use Rattle.guest_space.specs.Space.{Space}
 use Rattle.guest_space.specs.Running.{Ran, run_space}
 use Rattle.turn_sched.specs.Lists.{with_woken, picked_place, picked_by, without_place}
 use Rattle.turn_sched.specs.Clock.{after_idle, after_pick, time_at, is_past, pick_word_at}
-use Rattle.mono_model.specs.Machine.{Mono, Process, Thread, Target, Opened, Exits, Wakes, Gone, Waiter, process_at, thread_at, with_process, with_context, made_ready, exit_code, is_woken}
+use Rattle.mono_model.specs.Machine.{Mono, Thread, Target, Opened, Exits, Wakes, Gone, Waiter, process_at, thread_at, with_memory_in, with_context, made_ready, exit_code, is_woken}
 use Rattle.mono_model.specs.Written.{Written, nothing, and_then}
 use Rattle.mono_model.specs.Calls.{Trap, Served, silently, memory_at, served}
 
@@ -61,10 +60,6 @@ with_pick m place = record m {
   lists = without_place m.lists place;
   positions = after_pick m.positions;
 }
-
-abbrev pub with_memory_in : Mono → ℕ → Space → Option Process → Mono
-with_memory_in m p s None = m
-with_memory_in m p s (Some process) = with_process m p (record process { memory = s })
 
 -- Fourth: the registers and the memory that the thread's instructions left.
 abbrev pub with_run_of : Mono → ℕ → ℕ → Ran → Mono

@@ -1,2 +1,6 @@
 //! The monolithic machine: what a run is, with no host, handle or call between its parts.
 #![tactic(auto)]
+
+mod laws;
+
+pub use laws::{free_runs_have_no_pages, lowest_free_run_is_lowest};

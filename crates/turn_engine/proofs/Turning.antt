@@ -17,15 +17,17 @@ use Rattle.abi_calls.proofs.TurnFacts.{world_turn-moves}
 use Rattle.mono_model.specs.Machine.{Mono, register}
 use Rattle.mono_model.specs.Readable.{Readable}
 use Rattle.mono_model.specs.Written.{nothing, and_then}
-use Rattle.mono_model.specs.Calls.{Served, WRITE, is_exit, EBADF, error, fault_code}
+use Rattle.mono_model.specs.Calls.{Served, WRITE, MUNMAP, MMAP, MPROTECT, EBADF, ENOSYS, error, munmap_known, mmap_known, mprotect_known, fault_code, is_exit}
 use Rattle.mono_model.specs.Turns.{is_stuck, turn_of}
 use Rattle.mono_model.specs.Starting.{Runs}
+use Rattle.libos_state.specs.declared.cont.Stage.{Stage}
+use Rattle.libos_state.specs.declared.cont.Stage.TheVariants.{AllocatePages, FreePages, ProtectPages}
 use Rattle.libos_state.specs.declared.state.LibOs.{LibOs}
 use Rattle.libos_state.specs.declared.notes.Description.{Description}
 use Rattle.libos_state.specs.declared.state.Boot.{Boot}
 use Rattle.libos_state.specs.declared.state.Boot.TheVariants.{Up}
 use Rattle.libos_state.specs.Records.{description_behind}
-use Rattle.libos_state.specs.Entered.{entered, call_entered, write_entered, ends_process, result_of, known_result}
+use Rattle.libos_state.specs.Entered.{entered, call_entered, write_entered, on_pages, munmap_entered, mmap_entered, mprotect_entered, memory_entered, ends_process, result_of, known_result}
 use Rattle.libos_state.specs.Fits.{Fits, FitsUp, FitsBoot, FitsCont}
 use Rattle.libos_state.specs.Laws.{EntersTurn}
 use Rattle.libos_state.specs.Meaning.{Meaning, meant, meant_settled, leads_to}
@@ -120,13 +122,23 @@ entered-boot-write os u (Some d) =
     boot_if (bit_and d.access 2 == 2) _ (result_of os u (error EBADF)) os.boot
     (boot_if (register u.context 12 == 0) (result_of os u 0) _ os.boot refl refl) refl
 
+entered-boot-pages : (os : LibOs) (u : Upcall) (known : Option ℕ) (stage : Stage) (page count : ℕ) → (on_pages os u known stage page count).boot ≡ os.boot
+entered-boot-pages os u None stage page count = refl
+entered-boot-pages os u (Some result) stage page count = refl
+
+entered-boot-memory : (os : LibOs) (u : Upcall) (number : ℕ) → (memory_entered os u number).boot ≡ os.boot
+entered-boot-memory os u number =
+    boot_if (number == MUNMAP) (munmap_entered os u) _ os.boot (entered-boot-pages os u (munmap_known u.context) FreePages _ _)
+    (boot_if (number == MMAP) (mmap_entered os u) _ os.boot (entered-boot-pages os u (mmap_known u.context) AllocatePages _ _)
+    (boot_if (number == MPROTECT) (mprotect_entered os u) (result_of os u (known_result os u number)) os.boot (entered-boot-pages os u (mprotect_known u.context) ProtectPages _ _) refl))
+
 -- a library OS that begins to serve a trap is as far as before
 pub entered-boot : (os : LibOs) (u : Upcall) → (entered os u).boot ≡ os.boot
 entered-boot os u =
     boot_if (u.cause == 8) (call_entered os u (register u.context 17)) (ends_process os u (fault_code u.cause)) os.boot
     (boot_if (register u.context 17 == WRITE) (write_entered os u (description_behind os u.process (register u.context 10))) _ os.boot
     (entered-boot-write os u (description_behind os u.process (register u.context 10)))
-    (boot_if (is_exit (register u.context 17)) (ends_process os u (register u.context 10 % 256)) (result_of os u (known_result os u (register u.context 17))) os.boot refl refl))
+    (boot_if (is_exit (register u.context 17)) (ends_process os u (register u.context 10 % 256)) (memory_entered os u (register u.context 17)) os.boot refl (entered-boot-memory os u (register u.context 17))))
     refl
 
 same_runs : (m n : Mono) → Runs m ≡ Runs n → m ≡ n
