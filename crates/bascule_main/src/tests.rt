@@ -4,8 +4,9 @@ use crate::folder::Folder;
 use crate::streams::{Reading, Writing};
 use bas_edge::{EdgeError, Failed, Shelf, Sink, Source, Store};
 use std::fmt::Debug;
-use std::fs;
+use std::fs::{self, OpenOptions, Permissions};
 use std::io::{self, ErrorKind, Read};
+use std::os::unix::fs::PermissionsExt;
 use std::process::Abort;
 use std::rt::Files;
 use std::test::Fail;
@@ -68,6 +69,18 @@ fn sinks_give_what_is_written(rt: HostRuntime) {
     want(&rt, sink.faults(), 0);
     want(&rt, sink.give(b"?"), Err(EdgeError::Failed));
     want(&rt, sink.faults(), 1);
+    want(&rt, room, *b"hi!");
+}
+
+#[test]
+fn a_full_device_is_a_fault(rt: HostRuntime) -> Result<(), Fail> {
+    let mut options = OpenOptions::new();
+    options.write(true);
+    let mut sink = Writing::new(options.open(&rt, "/dev/full")?);
+    want(&rt, sink.give(b"x"), Err(EdgeError::Failed));
+    want(&rt, sink.give(b"y"), Err(EdgeError::Failed));
+    want(&rt, sink.faults(), 2);
+    Ok(())
 }
 
 #[test]
@@ -112,6 +125,71 @@ fn conditions_found_untrue_are_faults(rt: HostRuntime) -> Result<(), Fail> {
     want(&rt, folder.remove(b"here"), Ok(()));
     fs::remove_dir(&rt, "root")?;
     Ok(())
+}
+
+/// A file `kept`.
+fn with_kept_file<R: Files>(rt: &R) -> Result<(), Fail> {
+    fs::create_dir_all(rt, "root")?;
+    fs::write(rt, "root/kept", b"kept")?;
+    Ok(())
+}
+
+/// Stops where the file `kept` has other bytes, and removes it and the folder.
+fn without_kept_file<R: Abort + AllocGlobal + Files>(rt: &R, wanted: &[u8]) -> Result<(), Fail> {
+    want_file(rt, "root/kept", wanted)?;
+    fs::remove_file(rt, "root/kept")?;
+    fs::remove_dir(rt, "root")?;
+    Ok(())
+}
+
+#[test]
+fn a_folder_in_the_place_of_a_file_is_a_fault(rt: HostRuntime) -> Result<(), Fail> {
+    let failed = Err(EdgeError::Failed);
+    let mut folder = Folder::new(rt.alloc(), &rt)?;
+    let mut buffer = [0; 1];
+    with_kept_file(&rt)?;
+    fs::create_dir(&rt, "root/place")?;
+    want(&rt, folder.length(b"place"), Err(EdgeError::Failed));
+    want(&rt, folder.create(b"place"), failed);
+    want(&rt, folder.read_at(b"place", 0, &mut buffer), failed);
+    want(&rt, folder.write_at(b"place", 0, b"x"), failed);
+    want(&rt, folder.set_length(b"place", 0), failed);
+    want(&rt, folder.rename(b"kept", b"place"), failed);
+    want(&rt, folder.remove(b"place"), failed);
+    want(&rt, folder.faults(), 7);
+    fs::remove_dir(&rt, "root/place")?;
+    without_kept_file(&rt, b"kept")
+}
+
+#[test]
+fn a_file_that_vanished_is_a_fault(rt: HostRuntime) -> Result<(), Fail> {
+    let failed = Err(EdgeError::Failed);
+    let mut folder = Folder::new(rt.alloc(), &rt)?;
+    let mut buffer = [0; 1];
+    with_kept_file(&rt)?;
+    want(&rt, folder.create(b"gone"), Ok(()));
+    want(&rt, folder.write_at(b"gone", 0, b"ab"), Ok(()));
+    fs::remove_file(&rt, "root/gone")?;
+    want(&rt, folder.length(b"gone"), Ok(None));
+    want(&rt, folder.read_at(b"gone", 0, &mut buffer), failed);
+    want(&rt, folder.write_at(b"gone", 0, b"x"), failed);
+    want(&rt, folder.faults(), 2);
+    without_kept_file(&rt, b"kept")
+}
+
+/// A user whom permissions don't hold reads and writes all the same.
+#[test]
+fn a_file_without_permission_is_a_fault(rt: HostRuntime) -> Result<(), Fail> {
+    let mut folder = Folder::new(rt.alloc(), &rt)?;
+    let mut buffer = [0; 1];
+    with_kept_file(&rt)?;
+    fs::set_permissions(&rt, "root/kept", Permissions::from_mode(0))?;
+    let is_read = folder.read_at(b"kept", 0, &mut buffer).is_ok();
+    let is_written = folder.write_at(b"kept", 0, b"K").is_ok();
+    want(&rt, is_read, is_written);
+    want(&rt, folder.faults(), if is_read { 0 } else { 2 });
+    fs::set_permissions(&rt, "root/kept", Permissions::from_mode(0o600))?;
+    without_kept_file(&rt, if is_written { b"Kept" } else { b"kept" })
 }
 
 #[test]
