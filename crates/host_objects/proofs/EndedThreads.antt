@@ -1,5 +1,5 @@
 -- Threads of a process that end one after another, and the look for the next one.
-use Rattle.std.specs.Prelude.{◌≡◌, ℕ, ◌-◌, ◌<◌, Bool, true, false, ◌==◌, ◌||◌, not, List, [], ◌∷◌, is_some}
+use Rattle.std.specs.Prelude.{◌≡◌, ℕ, ◌-◌, ◌<◌, Bool, true, false, ◌==◌, ◌||◌, not, List, is_some}
 use Rattle.std.specs.List.{list_any}
 use Rattle.std.specs.FinMap.{empty, get, len, remove, retain_keys, len-remove, empty_of_len}
 use Rattle.std.specs.Cmp.{nat_cmp_total}

@@ -6,3 +6,4 @@ pub mod Rows
 pub mod EndedThreads
 pub mod MemoryRows
 pub mod TurnSteps
+pub mod Running

@@ -1,6 +1,7 @@
 -- A turn, by the thread that is picked and by how it ends.
 use Rattle.std.specs.Prelude.{◌≡◌, ℕ, ◌==◌, Bool, true, false, not, List, [], ◌++◌, map, filter, unwrap_or, slice_index, slice_get, is_some}
 use Rattle.std.specs.List.{list_any}
+use Rattle.std.specs.FinMap.{insert}
 use Rattle.std.specs.declared.option.Option.{Option}
 use Rattle.std.specs.declared.option.Option.TheVariants.{None, Some}
 use Rattle.std.proofs.Common.{refl, sym, ap, ◌∙◌, cond, append-nil}
@@ -8,24 +9,20 @@ use Rattle.std.proofs.lemmas.Bool.{cond-false}
 use Rattle.std.proofs.lemmas.Option.{unwrap_or-slice_get}
 use Rattle.rv_core.specs.declared.context.Context.{Context}
 use Rattle.rv_core.specs.Machine.{trap_of}
-use Rattle.guest_space.specs.Space.{Space}
-use Rattle.guest_space.specs.Running.{run_space}
 use Rattle.turn_sched.specs.Lists.{Waiting, Lists}
 use Rattle.abi_calls.specs.declared.object.Object.TheVariants.{Thread}
 use Rattle.abi_calls.specs.declared.threads.Turned.{Turned}
 use Rattle.abi_calls.specs.declared.threads.Turned.TheVariants.{Stuck}
-use Rattle.abi_calls.specs.Objects.{Object, Objects, object_at, running, with_object}
-use Rattle.abi_calls.specs.Memory.{with_pages}
+use Rattle.abi_calls.specs.Objects.{Live, Object, Objects, object_at, running, with_object}
 use Rattle.abi_calls.specs.Sound.{IsSound}
 use Rattle.abi_calls.specs.Turn.{is_due, with_due_ready, pick_of, turn_of_pick, world_turn}
 use Rattle.bas_items.proofs.NumberMaps.{get-insert}
 use Rattle.abi_calls.proofs.Facts.{ready_thread}
 use Rattle.host_objects.specs.declared.turns.Slice.{Slice}
 use Rattle.host_objects.specs.System.{wait_for_nothing, world_lists}
-use Rattle.host_objects.specs.Taken.{Took}
+use Rattle.host_objects.specs.Running.{RunsIn}
 use Rattle.host_objects.specs.Turns.{HasHome, RunsSlice}
 use Rattle.host_objects.proofs.Lists.{none_passes, all_stay, any_waits}
-use Rattle.host_objects.proofs.MemoryRows.{put_back}
 
 -- ---- where each thread that waits waits for nothing
 -- None is due.
@@ -75,18 +72,17 @@ pub there_after : (o o' : Objects) (t p : ℕ) (x y : Object) → object_at o t 
 there_after o o' t p x y some e =
     ap (λ q. is_some (object_at q t)) e ∙ ap is_some (get-insert o.live p x t) ∙ stays_some (t == p) x (object_at o t) (ap is_some some)
 
--- A thread ran in pages that were taken out, and then put back.
-pub ran_slice : (o o1 o2 o3 : Objects) (t : ℕ) (slice : Slice) (context : Context) (s s' : Space) → object_at o t ≡ Some (Thread slice.process context) → Took o slice.process o1 s
-    → run_space o.settings.slice context s ≡ record { context = slice.context; space = s'; trap = trap_of slice.ended }
-    → o2 ≡ with_pages o1 slice.process s' → o3 ≡ with_object o2 t (Thread slice.process slice.context) → RunsSlice o t slice o3
-ran_slice o o1 o2 o3 t slice context s s' is took led put set = record {
+-- A thread ran in the pages of its process, and keeps the registers that it has now.
+pub ran_slice : (o o' : Objects) (t : ℕ) (slice : Slice) (context : Context) (live : Live) → object_at o t ≡ Some (Thread slice.process context)
+    → RunsIn o.live slice.process o.settings.slice context slice.ended live slice.context → o' ≡ record o { live = insert live t (Thread slice.process slice.context) } → RunsSlice o t slice o'
+ran_slice o o' t slice context live is ran set = record {
   context = context;
-  memory = s;
+  memory = ran.memory;
   is = is;
-  runs = ap running took.was;
-  run = record { context = slice.context; space = s'; trap = trap_of slice.ended };
-  led = led;
+  runs = ran.runs;
+  run = record { context = slice.context; space = ran.space; trap = trap_of slice.ended };
+  led = ran.led;
   registers = refl;
   trap = refl;
-  now = set ∙ ap {A = Objects} (λ q. with_object q t (Thread slice.process slice.context)) (put_back o o1 o2 slice.process s s' took put);
+  now = set ∙ ap {A = Live} (λ m. record o { live = insert m t (Thread slice.process slice.context) }) ran.now;
 }

@@ -5,4 +5,5 @@ pub mod System
 pub mod Rows
 pub mod Objects
 pub mod Taken
+pub mod Running
 pub mod Turns

@@ -3,11 +3,16 @@ ghost use Rattle.std.specs.Option.{option_copied};
 ghost use Rattle.std.specs.FinMap as map;
 ghost use Rattle.std.specs.List.{list_any};
 ghost use Rattle.std.specs.Map.Iter.{ShowsInOrder, deref};
+ghost use Rattle.abi_calls.specs.Objects.{running};
 ghost use Rattle.host_objects.specs.Handles.{Adds};
+ghost use Rattle.host_objects.specs.Running.{RunsIn};
 
 use crate::numbers::Numbers;
 use crate::table::Table;
+use abi_calls::Object;
 use bas_edge::Memory;
+use guest_memory::Pages;
+use rv_core::{Context, Ended, Memo};
 use std::alloc::Global;
 use std::collections::btree_map::{Keys, Values};
 use std::marker::Model;
@@ -82,7 +87,7 @@ impl<N: Numbers + Drop, V: Drop> Handles<N, V> {
         requires { IsSome (map.get self.old number) }
         ensures { self.new ≡ map.insert self.old number value }
     {
-        self.table.replace(number, value);
+        self.table.set(number, value);
     }
 
     /// Ends a number with the value under it.
@@ -115,5 +120,21 @@ impl<N: Numbers + Drop, V: Drop> Handles<N, V> {
         ensures { IsTrue result ↔ (self.now ≡ map.empty) }
     {
         self.table.is_empty()
+    }
+}
+
+impl<N: Numbers + Drop> Handles<N, Object<Pages>> {
+    /// Does instructions of a thread in the pages of a process, where they stand, until one traps or `most` are done.
+    pub(crate) fn run(
+        &mut self,
+        process: u64,
+        context: &mut Context,
+        memo: &mut Memo,
+        most: u32,
+    ) -> Ended
+        requires { IsSome (running (map.get self.old process)) }
+        ensures { RunsIn self.old process most context.old result self.new context.new }
+    {
+        self.table.run(process, context, memo, most)
     }
 }

@@ -1,4 +1,4 @@
-ghost use Rattle.std.specs.Prelude.{◌≡◌, true, IfOk, IfSome, IfNone, OnErr, OnOk, is_some};
+ghost use Rattle.std.specs.Prelude.{◌≡◌, true, IfOk, IfSome, IfNone, OnErr};
 ghost use Rattle.abi_calls.specs.declared.call.Call.TheVariants.{Close, ProcessCreate, ProcessExit, ProcessStatus, Configure};
 ghost use Rattle.abi_calls.specs.Objects.{object_at, is_thread_of};
 ghost use Rattle.abi_calls.specs.Processes.{without_threads};
@@ -17,12 +17,10 @@ use guest_memory::Pages;
 use rv_core::Memo;
 use std::alloc::Global;
 
-/// Makes the memo of decoded words where there is none yet.
-fn make_memo(memo: &mut Option<Memo>, alloc: Global) -> Result<(), Memory>
-    ensures { OnOk result (is_some memo.new ≡ true) }
-{
-    if memo.is_none() {
-        *memo = Some(Memo::new(alloc)?);
+/// Gives a memo of decoded words slots where it has none yet.
+fn make_slots(memo: &mut Memo, alloc: Global) -> Result<(), Memory> {
+    if !memo.has_slots() {
+        *memo = Memo::new(alloc)?;
     }
     Ok(())
 }
@@ -56,7 +54,7 @@ impl<N: Numbers + Drop> System<N> {
         if self.census().processes >= MOST_PROCESSES {
             return Ok(Reply::NoRoom);
         }
-        make_memo(&mut self.memo, self.alloc)?;
+        make_slots(&mut self.memo, self.alloc)?;
         let memory = Pages::new(self.alloc);
         let number = self.handles.add(Object::Process { memory, code: None })?;
         Ok(Reply::Handle(number))

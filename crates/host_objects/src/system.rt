@@ -23,8 +23,8 @@ pub(crate) struct System<N: Numbers> {
     pub(crate) schedule: Schedule,
     pub(crate) positions: Positions,
     pub(crate) settings: Settings,
-    /// Words that threads met, with their instructions: made with the first process, and shared by all.
-    pub(crate) memo: Option<Memo>,
+    /// Words that threads met, with their instructions: it has slots from the first process on, and all share it.
+    pub(crate) memo: Memo,
     pub(crate) alloc: Global,
 }
 
@@ -59,7 +59,7 @@ impl<N: Numbers + Drop> System<N> {
                 picks: Items::new(alloc),
                 randoms: Items::new(alloc),
             },
-            memo: None,
+            memo: Memo::empty(alloc),
             alloc,
         }
     }

@@ -1,11 +1,16 @@
-ghost use Rattle.std.specs.Prelude.{◌≡◌, ℕ, ◌^◌, ◌<◌, ◌==◌, ◌↔◌, length, is_some, IsTrue, IsSome, IfOk, OnOk, OnErr};
+ghost use Rattle.std.specs.Prelude.{◌≡◌, ℕ, ◌^◌, ◌<◌, ◌==◌, ◌↔◌, length, is_some, Some, IsTrue, IsSome, IfOk, OnOk, OnErr};
 ghost use Rattle.std.specs.Option.{option_copied};
 ghost use Rattle.std.specs.Ordering.{nat_cmp};
 ghost use Rattle.std.specs.FinMap as map;
 ghost use Rattle.std.specs.List.{list_any};
 ghost use Rattle.std.specs.Map.Iter.{ShowsInOrder, deref};
+ghost use Rattle.abi_calls.specs.Objects.{running};
+ghost use Rattle.host_objects.specs.Running.{RunsIn, RunsObject};
 
+use abi_calls::Object;
 use bas_edge::Memory;
+use guest_memory::Pages;
+use rv_core::{Context, Ended, Memo};
 use std::alloc::Global;
 use std::collections::BTreeMap;
 use std::collections::btree_map::{Keys, Values};
@@ -71,6 +76,17 @@ impl<V: Drop> Table<V> {
         }
     }
 
+    /// Puts a value in the place of that of a number. Takes no memory.
+    pub(crate) fn set(&mut self, number: u64, value: V)
+        requires { IsSome (map.get self.old number) }
+        ensures { self.new ≡ map.insert self.old number value }
+    {
+        match self.entries.get_mut(&number) {
+            Some(place) => *place = value,
+            None => unreachable!(),
+        }
+    }
+
     /// Takes a number out.
     pub(crate) fn remove(&mut self, number: u64)
         ensures { self.new ≡ map.remove self.old number }
@@ -100,5 +116,36 @@ impl<V: Drop> Table<V> {
         ensures { IsTrue result ↔ (self.now ≡ map.empty) }
     {
         self.entries.is_empty()
+    }
+}
+
+/// Does instructions of a thread in the pages of a process until one traps or `most` are done.
+#[inline(never)]
+fn run_in(object: &mut Object<Pages>, context: &mut Context, memo: &mut Memo, most: u32) -> Ended
+    requires { IsSome (running (Some object.old)) }
+    ensures { RunsObject most object.old context.old result object.new context.new }
+{
+    match object {
+        Object::Process { memory, code: None } => memory.run_with(context, memo, most),
+        _ => unreachable!(),
+    }
+}
+
+impl Table<Object<Pages>> {
+    /// Does instructions of a thread in the pages of a process, where they stand, until one traps or `most` are done.
+    pub(crate) fn run(
+        &mut self,
+        process: u64,
+        context: &mut Context,
+        memo: &mut Memo,
+        most: u32,
+    ) -> Ended
+        requires { IsSome (running (map.get self.old process)) }
+        ensures { RunsIn self.old process most context.old result self.new context.new }
+    {
+        match self.entries.get_mut(&process) {
+            Some(object) => run_in(object, context, memo, most),
+            None => unreachable!(),
+        }
     }
 }

@@ -1,7 +1,5 @@
 ghost use Rattle.std.specs.Prelude.{◌≡◌};
 ghost use Rattle.abi_calls.specs.declared.object.Object.TheVariants.{Thread};
-ghost use Rattle.rv_core.specs.Machine.{trap_of};
-ghost use Rattle.guest_space.specs.Running.{run_space};
 ghost use Rattle.abi_calls.specs.Objects.{object_at};
 ghost use Rattle.abi_calls.specs.Sound.{IsSound};
 ghost use Rattle.abi_calls.specs.Turn.{world_turn, pick_word};
@@ -11,8 +9,7 @@ ghost use Rattle.host_objects.specs.Turns.{HasHome, RunsSlice};
 use crate::numbers::Numbers;
 use crate::system::System;
 use abi_calls::{Object, Turned, Upcall};
-use guest_memory::Pages;
-use rv_core::{Context, Ended, Memo};
+use rv_core::{Context, Ended};
 
 /// What a thread did in a turn: its process, the registers that it has now, and how it ended.
 #[derive(Clone, Copy)]
@@ -20,17 +17,6 @@ struct Slice {
     process: u64,
     context: Context,
     ended: Ended,
-}
-
-/// Does instructions of a thread in the pages of its process until one traps or `most` are done.
-fn run_in(memory: &mut Pages, memo: &mut Option<Memo>, context: &mut Context, most: u32) -> Ended
-    ensures { run_space most context.old memory.old
-        ≡ record { context = context.new; space = memory.new; trap = trap_of result } }
-{
-    match memo {
-        Some(memo) => memory.run_with(context, memo, most),
-        None => memory.run(context, most),
-    }
 }
 
 impl<N: Numbers + Drop> System<N> {
@@ -91,11 +77,9 @@ impl<N: Numbers + Drop> System<N> {
     {
         let most = self.settings.slice;
         let (process, mut context) = self.home(thread);
-        let Some(mut memory) = self.take_memory(process) else {
-            unreachable!();
-        };
-        let ended = run_in(&mut memory, &mut self.memo, &mut context, most);
-        self.put_memory(process, memory);
+        let ended = self
+            .handles
+            .run(process, &mut context, &mut self.memo, most);
         self.handles
             .set(thread, Object::Thread { process, context });
         Slice {

@@ -88,24 +88,31 @@ fn runs_alike(
 
 /// Stores of 1, 2, 4 and 8 bytes from two words before the store to two words behind it, at each misalignment, in
 /// the middle of a page and at its end.
-#[test]
-fn stores_into_the_program(rt: HostRuntime) -> Result<(), Fail> {
-    let mut memo = Memo::new(rt.alloc())?;
+fn all_run_alike(rt: &impl Abort, alloc: Global, memo: &mut Memo) -> Result<(), Fail> {
     for op in [Op::Sb, Op::Sh, Op::Sw, Op::Sd] {
         for at in [START + 12, START + 28] {
             for offset in 0..17 {
-                runs_alike(
-                    &rt,
-                    rt.alloc(),
-                    &mut memo,
-                    op,
-                    at,
-                    at.wrapping_sub(8).wrapping_add(offset),
-                )?;
+                let to = at.wrapping_sub(8).wrapping_add(offset);
+                runs_alike(rt, alloc, memo, op, at, to)?;
             }
         }
     }
     Ok(())
+}
+
+#[test]
+fn stores_into_the_program(rt: HostRuntime) -> Result<(), Fail> {
+    let mut memo = Memo::new(rt.alloc())?;
+    assert!(rt; memo.has_slots());
+    all_run_alike(&rt, rt.alloc(), &mut memo)
+}
+
+/// A memo without slots takes no memory, and decodes each word.
+#[test]
+fn stores_into_the_program_without_slots(rt: HostRuntime) -> Result<(), Fail> {
+    let mut memo = Memo::empty(rt.alloc());
+    assert!(rt; !memo.has_slots());
+    all_run_alike(&rt, rt.alloc(), &mut memo)
 }
 
 /// A run of `n` instructions ends so, with this sum in x10.

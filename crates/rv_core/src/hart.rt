@@ -9,7 +9,7 @@ use crate::cells::{Cells, CodeCells};
 use crate::context::{Context, Ended, Trap};
 use crate::decoder::decode;
 use crate::instr::Instr;
-use crate::memo::Memo;
+use crate::memo::{Memo, Noted, decode_at};
 use crate::register_file::RegisterFile;
 use crate::rows::{Effect, effect_of, extend};
 
@@ -198,7 +198,7 @@ pub fn step<C: Cells>(cx: &mut Context, cells: &mut C) -> Option<Trap>
 {
     let mut file = RegisterFile::new(cx);
     let trap = step_in(&mut file, cells);
-    *cx = file.context();
+    file.give_back(cx);
     trap
 }
 
@@ -225,7 +225,7 @@ pub fn slice<C: Cells>(cx: &mut Context, cells: &mut C, n: u32) -> Ended
 {
     let mut file = RegisterFile::new(cx);
     let ended = steps(&mut file, cells, n);
-    *cx = file.context();
+    file.give_back(cx);
     ended
 }
 
@@ -243,7 +243,11 @@ fn fetch<C: CodeCells>(cells: &mut C, at: u64) -> Option<u32>
 
 /// Does the instruction at the program counter, as `step_in` does.
 #[inline(always)]
-fn step_with<C: CodeCells>(file: &mut RegisterFile, cells: &mut C, memo: &mut Memo) -> Option<Trap>
+fn step_with<C: CodeCells>(
+    file: &mut RegisterFile,
+    cells: &mut C,
+    slots: &mut [Noted],
+) -> Option<Trap>
     requires { HasZero file.old }
     ensures zero { HasZero file.new }
     ensures outcome { Gives (instruction (registers_of file.old) (C.memory cells.old))
@@ -262,17 +266,17 @@ fn step_with<C: CodeCells>(file: &mut RegisterFile, cells: &mut C, memo: &mut Me
             value: pc,
         });
     };
-    perform(file, cells, word, memo.decode(pc, word))
+    perform(file, cells, word, decode_at(slots, pc, word))
 }
 
 /// Does steps until one traps or `n` are done, as `steps` does: with code that is held, and words that are decoded
-/// once.
+/// once. A trap is made anew from its cause and value: as a whole, it would be carried through the loop.
 #[inline(always)]
 #[tactic(auto, unfolding(crate::specs::Machine::instructions))]
 fn steps_with<C: CodeCells>(
     file: &mut RegisterFile,
     cells: &mut C,
-    memo: &mut Memo,
+    slots: &mut [Noted],
     n: u32,
 ) -> Ended
     requires { HasZero file.old }
@@ -280,8 +284,8 @@ fn steps_with<C: CodeCells>(
         result (registers_of file.new) (C.memory cells.new) }
 {
     for _step in 0..n {
-        if let Some(trap) = step_with(file, cells, memo) {
-            return Ended::Trapped(trap);
+        if let Some(Trap { cause, value }) = step_with(file, cells, slots) {
+            return Ended::Trapped(Trap { cause, value });
         }
     }
     Ended::Ran
@@ -294,7 +298,7 @@ pub fn slice_with<C: CodeCells>(cx: &mut Context, cells: &mut C, memo: &mut Memo
     ensures { Ends (instructions n cx.old (C.memory cells.old)) result cx.new (C.memory cells.new) }
 {
     let mut file = RegisterFile::new(cx);
-    let ended = steps_with(&mut file, cells, memo, n);
-    *cx = file.context();
+    let ended = steps_with(&mut file, cells, memo.slots(), n);
+    file.give_back(cx);
     ended
 }

@@ -11,7 +11,7 @@ const SLOTS: usize = 2048;
 
 /// A word and the instruction that it spells.
 #[derive(Clone, Copy)]
-struct Noted {
+pub(crate) struct Noted {
     word: u32,
     instr: Instr,
     ghost spells: { decoded word ≡ Some instr } by { Prim.hlevel props },
@@ -21,10 +21,17 @@ struct Noted {
 /// nothing of any memory: an instruction is taken from it only for the very word that was met.
 #[derive(Drop)]
 pub struct Memo {
-    slots: Box<[Noted; SLOTS]>,
+    slots: Vec<Noted>,
 }
 
 impl Memo {
+    /// A memo without slots: each word is decoded when it is met. Takes no memory.
+    pub fn empty(alloc: Global) -> Memo {
+        Memo {
+            slots: Vec::new(alloc),
+        }
+    }
+
     /// A memo in which each slot notes the word of `nop`.
     pub fn new(alloc: Global) -> Result<Memo, AllocError> {
         let nop = Noted {
@@ -32,23 +39,46 @@ impl Memo {
             instr: Instr::new(Op::Addi, 0, 0, 0, 0),
         };
         Ok(Memo {
-            slots: Box::new(alloc, [nop; SLOTS])?,
+            slots: vec![in alloc; nop; SLOTS]?,
         })
     }
 
-    /// The instruction that `word`, met at `at`, spells; `None` exactly where the word is illegal.
-    #[inline(always)]
-    pub(crate) fn decode(&mut self, at: u64, word: u32) -> Option<Instr>
-        ensures value { result ≡ decoded word }
-        ensures registers { IfSome result NamesRegisters }
-    {
-        let slot = &mut self.slots[(at / 4) as usize % SLOTS];
-        if slot.word != word {
-            match decode(word) {
-                Some(instr) => *slot = Noted { word, instr },
-                None => return None,
-            }
-        }
-        Some(slot.instr)
+    /// Whether there are slots.
+    pub fn has_slots(&self) -> bool {
+        !self.slots.is_empty()
     }
+
+    /// The slots.
+    #[inline(always)]
+    pub(crate) fn slots(&mut self) -> &mut [Noted] {
+        self.slots.as_mut_slice()
+    }
+}
+
+/// The instruction that `word`, met at `at`, spells; `None` exactly where the word is illegal.
+#[inline(always)]
+pub(crate) fn decode_at(slots: &mut [Noted], at: u64, word: u32) -> Option<Instr>
+    ensures value { result ≡ decoded word }
+    ensures registers { IfSome result NamesRegisters }
+{
+    let place = (at / 4) as usize % SLOTS;
+    if let Some(slot) = slots.get(place) {
+        if slot.word == word {
+            return Some(slot.instr);
+        }
+    }
+    note(slots, place, word)
+}
+
+/// Decodes `word`, and notes it in the slot at `place`, if there is one.
+#[cold]
+fn note(slots: &mut [Noted], place: usize, word: u32) -> Option<Instr>
+    ensures value { result ≡ decoded word }
+    ensures registers { IfSome result NamesRegisters }
+{
+    let instr = decode(word)?;
+    if let Some(slot) = slots.get_mut(place) {
+        *slot = Noted { word, instr };
+    }
+    Some(instr)
 }

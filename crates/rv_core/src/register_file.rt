@@ -19,19 +19,21 @@ impl RegisterFile {
         ensures same { registers_of result ≡ cx.now }
         ensures zero { HasZero result }
     {
-        let mut x = [0; 32];
-        x[1..].copy_from_slice(&cx.x);
-        RegisterFile { pc: cx.pc, x }
+        let mut file = RegisterFile {
+            pc: cx.pc,
+            x: [0; 32],
+        };
+        file.x[1..].copy_from_slice(&cx.x);
+        file
     }
 
-    /// The registers for a thread.
+    /// Gives the registers back to a thread.
     #[inline(always)]
-    pub(crate) fn context(&self) -> Context
-        ensures { result ≡ registers_of self.now }
+    pub(crate) fn give_back(&self, cx: &mut Context)
+        ensures { cx.new ≡ registers_of self.now }
     {
-        let mut x = [0; 31];
-        x.copy_from_slice(&self.x[1..]);
-        Context { pc: self.pc, x }
+        cx.pc = self.pc;
+        cx.x.copy_from_slice(&self.x[1..]);
     }
 
     /// What register `n` holds.

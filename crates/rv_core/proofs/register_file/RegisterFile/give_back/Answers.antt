@@ -1,7 +1,7 @@
 use Rattle.std.proofs.Common.{List, ℕ, ap, ◌∙◌, drop, arith}
 use Rattle.std.proofs.lemmas.List.{length-drop, take_all}
 use Rattle.rv_core.specs.declared.context.Context.{Context}
-use Rattle.rv_core.proofs.register_file.RegisterFile.context.Goals as goal
+use Rattle.rv_core.proofs.register_file.RegisterFile.give_back.Goals as goal
 
 pub returns : goal.returns
 returns c =
