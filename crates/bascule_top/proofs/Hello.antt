@@ -1,13 +1,13 @@
 -- The run of /bin/hi, worked out.
 use Rattle.std.proofs.Common.{nat_lt, ◌≡◌, ℕ, suc, ◌+◌, ◌-◌, ◌*◌, ◌%◌, ◌^◌, ◌<◌, true, false, cond, List, [], ◌∷◌, length, get_or, refl, sym, subst, ◌∙◌, ap, arith, inl, inr}
 use Rattle.std.specs.Option.{option_or}
-use Rattle.std.specs.List.{All, list_all}
+use Rattle.std.specs.List.{All, list_all, list_any}
 use Rattle.std.proofs.lemmas.Bool.{and_from, and_parts, cases_lt, cond-true, cond_both, le-leb, lt-ltb, ltb-true}
 use Rattle.std.proofs.lemmas.List.{get_or_past}
 use Rattle.std.proofs.lemmas.List.Elements.{All-nil, All-cons, All-get_or, All-from_get_or}
 use Rattle.std.proofs.lemmas.List.FromFn.{get_or-map-range_with_len}
 use Rattle.std.specs.Ordering.{nat_cmp}
-use Rattle.std.specs.FinMap.{empty, get, insert}
+use Rattle.std.specs.FinMap.{empty, entries, get, insert}
 use Rattle.std.specs.declared.option.Option.{Option}
 use Rattle.std.specs.declared.option.Option.TheVariants.{None, Some}
 use Rattle.rv_core.specs.declared.context.Context.{Context}
@@ -21,7 +21,7 @@ use Rattle.guest_space.specs.Running.{Ran, run_space, ran_from}
 use Rattle.guest_space.proofs.Cells.{with_memory_same}
 use Rattle.bas_edge.specs.Files.{file_of}
 use Rattle.bas_names.specs.declared.StreamName.TheVariants.{ConOut, ConErr}
-use Rattle.bas_items.proofs.NumberMaps.{get-insert-same, get-insert-other}
+use Rattle.bas_items.proofs.NumberMaps.{get-insert-same, get-insert-other, insert-insert}
 use Rattle.std.specs.declared.result.Result.TheVariants.{Ok}
 use Rattle.elf_loader.specs.declared.header.ProgramHeader.{ProgramHeader}
 use Rattle.elf_loader.specs.declared.runs.Layout.{Layout}
@@ -35,10 +35,11 @@ use Rattle.guest_space.specs.Regions.{merged}
 use Rattle.mono_model.specs.Readable.{Readable}
 use Rattle.mono_model.specs.Written.{nothing}
 use Rattle.mono_model.specs.Machine.{Mono, Process, Thread, Description, process_at, thread_at, with_memory_in, with_process, with_thread, with_registers, exit_code, code_in, exited}
-use Rattle.mono_model.specs.Calls.{Caller, Served, silently, served, finished, ended, description_of, described_in, described_by, writable, write_to, write_unless, memory_in, with_exited}
+use Rattle.mono_model.specs.Calls.{Caller, Served, silently, served, finished, is_other_thread, has_other_thread, without_thread, ended, description_of, described_in, described_by, writable, write_to, write_unless, memory_in, with_exited}
 use Rattle.mono_model.specs.Starting.{argument_block, Runs, blank, begun, begun_from, started_if, boot, console_descriptors, console_descriptions, new_process}
 use Rattle.mono_model.specs.Turns.{Ending, Exited, ends_as, behind, with_pick, with_run_of, after_run, run_thread, turn_of, run_of}
 use Rattle.mono_model.proofs.RunLaws.{run_of-exited, run_of-turn}
+use Rattle.libos_state.proofs.Leaving.{list_any-mapped}
 use Rattle.bascule_top.specs.Commands.{TURNS, start_settings, start_job}
 use Rattle.bascule_top.specs.Hello.{hello, hello_name, hello_file, hello_text, SaysHello}
 use Rattle.bascule_top.proofs.Pages.{program_cell, begins_with, program_there, begins_in_space}
@@ -255,10 +256,18 @@ module _ (x : Readable) (s : Space) (space : IsSpace s) (holds : HoldsHello (mem
     descriptions = refl;
   }
 
+  -- its process has no other thread
+  thread_alone : has_other_thread at_exit (caller (registers 0x10098 0 0x1009c 3 93)) ≡ false
+  thread_alone =
+      let thread = first_thread (registers 0x10098 0 0x1009c 3 93) in
+      ap (λ threads. list_any (is_other_thread 1 1) (entries threads)) (insert-insert at_write.threads 1 _ thread ∙ insert-insert begins.threads 1 _ thread ∙ insert-insert empty 1 _ thread)
+      ∙ list_any-mapped (λ (e : ℕ × Thread). e.0) (λ e. e.1) (is_other_thread 1 1) ((1, thread) ∷ []) refl
+
   second_turn : turn_of has_written ≡ silently has_exited
   second_turn =
       turn_trapped has_written s (registers 0x10090 3 0x1009c 3 64) (registers 0x10098 0 0x1009c 3 93) 8 0 written_ready
       (run_unwritten 1000 (registers 0x10090 3 0x1009c 3 64) (registers 0x10098 0 0x1009c 3 93) s (Some (8, 0)) space (up_to_exit (memory_of s) holds))
+      ∙ ap (λ other. silently (cond other (without_thread at_exit 1) has_exited)) thread_alone
 
   has_code : exit_code has_exited 1 ≡ Some 0
   has_code =

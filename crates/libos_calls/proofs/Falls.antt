@@ -16,10 +16,12 @@ use Rattle.elf_loader.specs.declared.ElfError.{ElfError}
 use Rattle.elf_loader.specs.Image.{loaded, page_count}
 use Rattle.libos_state.specs.declared.cont.Cont.{Cont}
 use Rattle.libos_state.specs.declared.cont.Stage.{Stage}
-use Rattle.libos_state.specs.declared.cont.Stage.TheVariants.{SetContext, CloseHandles, ReadBuffer, WriteStream, AllocatePages, FreePages, ProtectPages, Configure, OpenConsole, OpenProgram, ProgramLength, ReadProgram, CloseProgram, CreateProcess, AllocateRun, WriteRun, ProtectRun, AllocateStack, WriteBlock, CreateThread, CreateEvent, StartThread}
+use Rattle.libos_state.specs.declared.cont.Stage.TheVariants.{SetContext, CloseEvent, CloseHandles, ReadBuffer, WriteStream, AllocatePages, FreePages, ProtectPages, Configure, OpenConsole, OpenProgram, ProgramLength, ReadProgram, CloseProgram, CreateProcess, AllocateRun, WriteRun, ProtectRun, AllocateStack, WriteBlock, CreateThread, CreateEvent, StartThread, CloseStream}
 use Rattle.libos_state.specs.declared.state.LibOs.{LibOs}
-use Rattle.libos_state.specs.Pending.{number, runs_in, run_in, run_piece}
-use Rattle.libos_state.specs.Answered.{bare, starting, with_step, service_with_result, service_closing, changed_step, load_step, answered_at, answered, answered_in}
+use Rattle.libos_state.specs.declared.step.Step.{Step}
+use Rattle.libos_state.specs.declared.step.Step.TheVariants.{GivesBreak, Ends, Asks}
+use Rattle.libos_state.specs.Pending.{number, is_brk, runs_in, run_in, run_piece}
+use Rattle.libos_state.specs.Answered.{bare, starting, with_step, with_change, service_with_result, service_closing, break_change, mapping_step, changed_step, load_step, answered_at, answered, answered_in, closing_change}
 use Rattle.libos_state.specs.Kept.{KeptAt, IsKept}
 use Rattle.libos_state.proofs.Programs.{few_runs, lies_behind}
 use Rattle.libos_calls.proofs.Pieces.{length-run_piece}
@@ -29,6 +31,9 @@ closes_falls : (c : Cont) (handles : List ℕ) → left_of (Some (service_closin
 closes_falls c [] = omega arith
 closes_falls c (h ∷ []) = omega arith
 closes_falls c (h ∷ k ∷ handles) = omega arith
+
+closed_falls : (os : LibOs) (c : Cont) → calls_left (with_step os (Asks (record (bare c SetContext) { next = c.next }))) < weighed 0 0 2 0 + 1
+closed_falls os c = lit< tt
 
 -- The run is looked for from a higher page on.
 mapping_falls : (c : Cont) (page count : ℕ) (below : Bool) → 1 ≤ count → page + count ≤ STACK_PAGE →
@@ -40,6 +45,12 @@ changed_falls : (os : LibOs) (c : Cont) (refused : ℕ) (r : Reply) → calls_le
 changed_falls os c refused Done = lit< tt
 changed_falls os c refused BadAddress = lit< tt
 changed_falls os c refused r = omega arith
+
+-- The break is given, or it is another call.
+given_falls : (os : LibOs) (c : Cont) (brk : Bool) (step : Step) (rest : ℕ) → (brk ≡ false → calls_left (with_step os step) < weighed 0 0 2 rest + 1)
+    → calls_left (with_step os (if brk then GivesBreak c else step)) < weighed 0 0 2 rest + 1
+given_falls os c true step rest falls = omega arith
+given_falls os c false step rest falls = falls refl
 
 opened_falls : (c : Cont) (handles : List ℕ) (h : ℕ) (all : Bool) → length handles < 3 →
     left_of (Some (starting c (if all then OpenProgram else OpenConsole) [] (handles ++ h ∷ []) [])) < weighed 2 0 5 (3 - length handles) + 1
@@ -91,15 +102,24 @@ run_falls c false m = omega arith
 
 falls_at : (os : LibOs) (c : Cont) (stage : Stage) (r : Reply) → KeptAt c stage → (stage ≡ ProgramLength → IsLengthSmall r) → calls_left (answered_at os c stage r) < left_at c stage + 1
 falls_at os c SetContext Done kept small = lit< tt
+falls_at os c CloseStream Done kept small = closed_falls (with_change os (closing_change c)) c
+falls_at os c CloseEvent Done kept small = lit< tt
 falls_at os c CloseHandles Done kept small = closes_falls c c.handles
 falls_at os c ReadBuffer (Bytes bytes) kept small = lit< tt
 falls_at os c ReadBuffer BadAddress kept small = lit< tt
 falls_at os c ReadBuffer NoAccess kept small = lit< tt
 falls_at os c WriteStream (Count n) kept small = lit< tt
-falls_at os c AllocatePages Done kept small = omega arith
-falls_at os c AllocatePages Exists kept small = mapping_falls c (number c 0) (number c 1) (nat_le (number c 0 + 1 + number c 1) STACK_PAGE) kept.0.some kept.0.below
-falls_at os c AllocatePages NoRoom kept small = omega arith
-falls_at os c FreePages r kept small = changed_falls os c EINVAL r
+falls_at os c AllocatePages Done kept small =
+    given_falls (with_change os (break_change c)) c (is_brk c) (mapping_step c Done) (STACK_PAGE - number c 0) (λ _. omega arith)
+falls_at os c AllocatePages Exists kept small =
+    given_falls os c (is_brk c) (mapping_step c Exists) (STACK_PAGE - number c 0)
+    (λ other. let pages = (kept other).0 in mapping_falls c (number c 0) (number c 1) (nat_le (number c 0 + 1 + number c 1) STACK_PAGE) pages.some pages.below)
+falls_at os c AllocatePages NoRoom kept small = given_falls os c (is_brk c) (mapping_step c NoRoom) (STACK_PAGE - number c 0) (λ _. omega arith)
+falls_at os c AllocatePages _ kept small = given_falls os c (is_brk c) Ends (STACK_PAGE - number c 0) (λ _. omega arith)
+falls_at os c FreePages Done kept small =
+    given_falls (with_change os (break_change c)) c (is_brk c) (changed_step c EINVAL Done) 0 (λ _. changed_falls (with_change os (break_change c)) c EINVAL Done)
+falls_at os c FreePages BadAddress kept small = given_falls os c (is_brk c) (changed_step c EINVAL BadAddress) 0 (λ _. changed_falls os c EINVAL BadAddress)
+falls_at os c FreePages _ kept small = given_falls os c (is_brk c) Ends 0 (λ _. omega arith)
 falls_at os c ProtectPages r kept small = changed_falls os c ENOMEM r
 falls_at os c Configure Done kept small = lit< tt
 falls_at os c OpenConsole (Handle h) kept small = opened_falls c c.handles h (length (c.handles ++ h ∷ []) == 3) kept

@@ -2,25 +2,26 @@
 use Rattle.std.specs.Prelude.{IfSome}
 use Rattle.std.specs.declared.option.Option.{Option}
 use Rattle.std.specs.declared.option.Option.TheVariants.{None, Some}
-use Rattle.std.proofs.Common.{refl}
+use Rattle.std.proofs.Common.{refl, subst}
 use Rattle.abi_calls.specs.Objects.{Objects}
 use Rattle.mono_model.specs.Calls.{MMAP, MPROTECT, mmap_known, mprotect_known}
 use Rattle.libos_state.specs.declared.cont.Cont.{Cont}
 use Rattle.libos_state.specs.declared.cont.Stage.{Stage}
 use Rattle.libos_state.specs.declared.cont.Stage.TheVariants.{AllocatePages, ProtectPages, OpenConsole, CreateProcess, AllocateRun, WriteRun, ProtectRun, WriteBlock, CreateThread, StartThread}
 use Rattle.libos_state.specs.declared.state.LibOs.{LibOs}
-use Rattle.libos_state.specs.Fits.{Fits, FitsStage, FitsCont}
+use Rattle.libos_state.specs.Fits.{Fits, FitsStage, FitsCont, KeepsMade, is_growth, is_undecided}
 use Rattle.libos_state.specs.Kept.{KeptAt, IsKept}
 use Rattle.libos_state.specs.Pending.{upcall_in}
-use Rattle.libos_state.proofs.Mapping.{undecided, mmap_asks, mprotect_asks}
+use Rattle.libos_state.proofs.Mapping.{unless_brk, undecided, mmap_asks, mprotect_asks}
 use Rattle.libos_state.proofs.Serving.{trap_of}
 
 kept_at : (os : LibOs) (o : Objects) (c : Cont) (stage : Stage) → FitsStage os o c stage → KeptAt c stage
-kept_at os o c AllocatePages fits =
+kept_at os o c AllocatePages fits = λ other.
     let trap = trap_of os o c.event AllocatePages refl fits.event in
     let u = upcall_in c.event in
-    let call = undecided os u MMAP (mmap_known u.context) trap.comes in
-    (fits.kept, (mmap_asks u.context call.unknown).0)
+    let comes = unless_brk os u is_growth (is_undecided os u MMAP (mmap_known u.context)) other trap.comes in
+    let call = undecided os u MMAP (mmap_known u.context) comes in
+    (subst (KeepsMade c) other fits.kept, (mmap_asks u.context call.unknown).0)
 kept_at os o c ProtectPages fits =
     let trap = trap_of os o c.event ProtectPages refl fits.event in
     let u = upcall_in c.event in

@@ -6,3 +6,4 @@ pub mod Layouts
 pub mod Falls
 pub mod Steps
 pub mod Numbers
+pub mod Closings

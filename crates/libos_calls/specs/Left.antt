@@ -8,7 +8,7 @@ use Rattle.abi_calls.specs.declared.reply.Reply.TheVariants.{Length}
 use Rattle.mono_model.specs.Starting.{STACK_PAGE}
 use Rattle.libos_state.specs.declared.cont.Cont.{Cont}
 use Rattle.libos_state.specs.declared.cont.Stage.{Stage}
-use Rattle.libos_state.specs.declared.cont.Stage.TheVariants.{SetContext, Resume, CloseHandles, ExitProcess, ReadBuffer, WriteStream, AllocatePages, FreePages, ProtectPages, Configure, OpenConsole, OpenProgram, ProgramLength, ReadProgram, CloseProgram, CreateProcess, AllocateRun, WriteRun, ProtectRun, AllocateStack, WriteBlock, CreateThread, CreateEvent, StartThread}
+use Rattle.libos_state.specs.declared.cont.Stage.TheVariants.{SetContext, Resume, CloseEvent, ExitThread, CloseHandles, ExitProcess, ReadBuffer, WriteStream, AllocatePages, FreePages, ProtectPages, Configure, OpenConsole, OpenProgram, ProgramLength, ReadProgram, CloseProgram, CreateProcess, AllocateRun, WriteRun, ProtectRun, AllocateStack, WriteBlock, CreateThread, CreateEvent, StartThread, CloseStream}
 use Rattle.libos_state.specs.declared.state.LibOs.{LibOs}
 use Rattle.libos_state.specs.Pending.{number, runs_in, run_in}
 
@@ -43,11 +43,14 @@ rounds_left c _ = 0
 abbrev pub stages_behind : Stage → ℕ
 stages_behind Resume = 0
 stages_behind SetContext = 1
+stages_behind CloseStream = 2
 stages_behind WriteStream = 2
 stages_behind ReadBuffer = 3
 stages_behind AllocatePages = 2
 stages_behind FreePages = 2
 stages_behind ProtectPages = 2
+stages_behind ExitThread = 0
+stages_behind CloseEvent = 1
 stages_behind ExitProcess = 0
 stages_behind CloseHandles = 1
 stages_behind StartThread = 0

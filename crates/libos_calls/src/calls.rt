@@ -1,4 +1,5 @@
 ghost use Rattle.std.specs.Prelude.{◌≡◌, IfOk};
+ghost use Rattle.abi_calls.specs.declared.call.Call.TheVariants.{Close};
 ghost use Rattle.libos_state.specs.Pending as spec;
 ghost use Rattle.libos_state.specs.Records.{description_behind};
 ghost use Rattle.libos_state.specs.Kept.{IsKept, KeptAt};
@@ -46,12 +47,20 @@ fn resume(cont: &Cont) -> Call
     }
 }
 
-fn close_next(cont: &Cont) -> Call
-    requires { cont.now.stage ≡ Stage.CloseHandles }
-    ensures { (os : LibOs) → result ≡ spec.asked os cont.now cont.now.stage }
+fn close_first(cont: &Cont) -> Call
+    ensures { result ≡ Close (spec.handle cont.now 0) }
 {
     Call::Close {
         handle: number_at(cont.handles.as_slice(), 0),
+    }
+}
+
+fn exit_thread(cont: &Cont) -> Call
+    requires { cont.now.stage ≡ Stage.ExitThread }
+    ensures { (os : LibOs) → result ≡ spec.asked os cont.now cont.now.stage }
+{
+    Call::ThreadExit {
+        thread: upcall_of(&cont.event).thread,
     }
 }
 
@@ -97,7 +106,8 @@ fn asked(os: &LibOs, alloc: Global, cont: &Cont) -> Result<Call, Memory>
     match cont.stage {
         Stage::SetContext => Ok(set_context(cont)),
         Stage::Resume => Ok(resume(cont)),
-        Stage::CloseHandles => Ok(close_next(cont)),
+        Stage::CloseStream | Stage::CloseEvent | Stage::CloseHandles => Ok(close_first(cont)),
+        Stage::ExitThread => Ok(exit_thread(cont)),
         Stage::ExitProcess => Ok(exit_process(cont)),
         Stage::ReadBuffer => Ok(read_buffer(cont)),
         Stage::WriteStream => write_stream(os, cont),

@@ -1,6 +1,6 @@
 ghost use Rattle.std.specs.Prelude.{◌≡◌, ◌<◌, ◌^◌, ◌==◌, not, filter, IfOk, OnOk, map, ◌++◌};
 ghost use Rattle.std.specs.List.{list_any};
-ghost use Rattle.mono_model.specs.Calls.{fault_code};
+ghost use Rattle.mono_model.specs.Calls.{fault_code, EXIT};
 ghost use Rattle.mono_model.specs.Machine.{register};
 ghost use Rattle.libos_state.specs.Entered as spec;
 ghost use Rattle.libos_state.specs.Records as records;
@@ -8,6 +8,9 @@ ghost use Rattle.libos_state.specs.Laws.{EntersTurn};
 ghost use Rattle.libos_state.specs.declared.notes.Description.{Description};
 ghost use Rattle.libos_state.specs.declared.state.LibOs.{LibOs};
 
+use crate::breaking::{BRK, enter_break};
+use crate::closing::{CLOSE, DUP, DUP3, enter_close, enter_dup, enter_dup3};
+use crate::ending::{end_thread, has_other_thread};
 use crate::kept::{A0, description_of, process_by_handle, thread_by_handle, thread_by_tid};
 use crate::mapping::memory_service;
 use crate::replies::{bare, closing, error, finishing};
@@ -33,12 +36,12 @@ const GETPPID: u64 = 173;
 const GETTID: u64 = 178;
 
 /// Error numbers.
-const EBADF: u64 = 9;
+pub const EBADF: u64 = 9;
 
 const ENOSYS: u64 = 38;
 
 /// The cause of a system call.
-const SYSTEM_CALL: u8 = 8;
+pub const SYSTEM_CALL: u8 = 8;
 
 /// The right to write.
 const WRITABLE: u8 = 2;
@@ -83,7 +86,7 @@ fn write_service(alloc: Global, upcall: Upcall, description: Option<Description>
 }
 
 /// The process that has a handle, by its id; 0 where there is none.
-fn pid_with(os: &LibOs, handle: u64) -> u64
+pub fn pid_with(os: &LibOs, handle: u64) -> u64
     ensures { result ≡ records.pid_with os.now handle }
 {
     match process_by_handle(os.processes.as_slice(), handle) {
@@ -103,8 +106,8 @@ fn parent_of(os: &LibOs, handle: u64) -> u64
 }
 
 /// The thread that has a handle, by its id; 0 where there is none.
-fn tid_with(os: &LibOs, handle: u64) -> u64
-    ensures { result ≡ records.tid_of (records.thread_with handle os.now.threads) }
+pub fn tid_with(os: &LibOs, handle: u64) -> u64
+    ensures { result ≡ records.tid_with os.now handle }
 {
     match thread_by_handle(os.threads.as_slice(), handle) {
         Some(note) => note.tid,
@@ -313,6 +316,19 @@ fn end_process(os: &mut LibOs, alloc: Global, upcall: Upcall, code: u8) -> Resul
     Ok(())
 }
 
+/// The thread ends where its process has another one, and else the process.
+fn exit(os: &mut LibOs, alloc: Global, upcall: Upcall) -> Result<(), Memory>
+    ensures { OnOk result (os.new ≡ spec.exit_entered os.old upcall EXIT) }
+{
+    let pid = pid_with(os, upcall.process);
+    let tid = tid_with(os, upcall.thread);
+    if has_other_thread(os.threads.as_slice(), pid, tid) {
+        end_thread(os, alloc, upcall)
+    } else {
+        end_process(os, alloc, upcall, (upcall.context.x[A0] % 256) as u8)
+    }
+}
+
 /// Begins to serve a system call.
 fn enter_call(os: &mut LibOs, alloc: Global, upcall: Upcall) -> Result<(), Memory>
     ensures { OnOk result (os.new ≡ spec.call_entered os.old upcall (register upcall.context 17)) }
@@ -324,7 +340,18 @@ fn enter_call(os: &mut LibOs, alloc: Global, upcall: Upcall) -> Result<(), Memor
             os.cont = Some(write_service(alloc, upcall, description));
             Ok(())
         }
-        EXIT | EXIT_GROUP => end_process(os, alloc, upcall, (registers[A0] % 256) as u8),
+        CLOSE => {
+            let description = description_of(os, upcall.process, registers[A0]);
+            Ok(enter_close(os, alloc, upcall, description)?)
+        }
+        DUP => {
+            let description = description_of(os, upcall.process, registers[A0]);
+            Ok(enter_dup(os, alloc, upcall, description)?)
+        }
+        DUP3 => Ok(enter_dup3(os, alloc, upcall)?),
+        BRK => Ok(enter_break(os, alloc, upcall)?),
+        EXIT => exit(os, alloc, upcall),
+        EXIT_GROUP => end_process(os, alloc, upcall, (registers[A0] % 256) as u8),
         number => {
             let known = known_result(os, &upcall, number);
             os.cont = Some(memory_service(alloc, upcall, known)?);

@@ -62,7 +62,8 @@ pub fn process_by_handle(processes: &[ProcessNote], handle: u64) -> Option<&Proc
     processes.iter().find(|note| note.handle == handle)
 }
 
-fn descriptor_by_number(descriptors: &[DescriptorNote], number: u64) -> Option<&DescriptorNote>
+/// The descriptor of this number.
+pub fn descriptor_by_number(descriptors: &[DescriptorNote], number: u64) -> Option<&DescriptorNote>
     ensures { option_copied result ≡ descriptor_named number descriptors.now }
 {
     descriptors.iter().find(|note| note.number == number)

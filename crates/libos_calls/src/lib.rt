@@ -3,7 +3,10 @@
 
 mod begun;
 mod block;
+mod breaking;
 mod calls;
+mod closing;
+mod ending;
 mod entered;
 mod fitting;
 mod kept;

@@ -1,15 +1,16 @@
-ghost use Rattle.std.specs.Prelude.{◌≡◌, ◌+◌, ◌*◌, ◌<◌, [], ◌∷◌, IfOk};
+ghost use Rattle.std.specs.Prelude.{◌≡◌, ◌+◌, ◌*◌, ◌<◌, ◌==◌, false, [], ◌∷◌, IfOk};
 ghost use Rattle.mono_model.specs.Calls as calls;
 ghost use Rattle.mono_model.specs.Machine.{register};
 ghost use Rattle.mono_model.specs.Mapping as pages;
 ghost use Rattle.libos_state.specs.Answered as answered;
 ghost use Rattle.libos_state.specs.Entered as entered;
 ghost use Rattle.libos_state.specs.Fits.{KeepsPages};
-ghost use Rattle.libos_state.specs.Kept.{HasRights};
+ghost use Rattle.libos_state.specs.Kept.{HasRights, KeptAt};
 ghost use Rattle.libos_state.specs.Pending as pending;
 ghost use Rattle.libos_state.specs.Pending.{upcall_in, number};
 ghost use Rattle.libos_state.specs.declared.state.LibOs.{LibOs};
 
+use crate::breaking::{is_brk, rights_made};
 use crate::kept::{A0, number_at, upcall_of};
 use crate::program::PAGE;
 use crate::replies::{bare, error, finishing};
@@ -46,7 +47,7 @@ const FIRST_MAPPED: u64 = 65_536;
 const MOST_PAGES: u64 = 1024;
 
 /// How many pages so many bytes take.
-fn pages_for(bytes: u64) -> u64
+pub fn pages_for(bytes: u64) -> u64
     ensures { result ≡ pages.pages_for bytes }
 {
     bytes.div_ceil(PAGE)
@@ -95,7 +96,7 @@ fn mmap_known(context: &Context) -> Option<u64>
 }
 
 /// A stage that keeps a page and a count of pages.
-fn at_pages(
+pub fn at_pages(
     alloc: Global,
     event: Event,
     stage: Stage,
@@ -137,9 +138,10 @@ fn on_pages(
     }
 }
 
-/// The service of a call on pages, by its number, or of another call, whose result is known.
+/// The service of a call on pages other than brk, by its number, or of another call, whose result is known.
 pub fn memory_service(alloc: Global, upcall: Upcall, known: u64) -> Result<Cont, AllocError>
-    ensures { IfOk result (λ cont. (os : LibOs) → known ≡ entered.known_result os upcall (register upcall.context 17)
+    ensures { IfOk result (λ cont. (os : LibOs) → (register upcall.context 17 == calls.BRK) ≡ false
+        → known ≡ entered.known_result os upcall (register upcall.context 17)
         → entered.memory_entered os upcall (register upcall.context 17) ≡ record os { cont = Some cont }) }
 {
     let context = upcall.context;
@@ -171,15 +173,14 @@ pub fn memory_service(alloc: Global, upcall: Upcall, known: u64) -> Result<Cont,
 
 pub fn allocate_pages(cont: &Cont) -> Call
     requires stage { cont.now.stage ≡ Stage.AllocatePages }
-    requires rights { HasRights cont.now }
+    requires kept { KeptAt cont.now Stage.AllocatePages }
     ensures { (os : LibOs) → result ≡ pending.asked os cont.now cont.now.stage }
 {
-    let upcall = upcall_of(&cont.event);
     Call::MemoryAllocate {
-        process: upcall.process,
+        process: upcall_of(&cont.event).process,
         page: number_at(cont.numbers.as_slice(), 0),
         count: number_at(cont.numbers.as_slice(), 1),
-        rights: upcall.context.x[A0 + 2] as u8,
+        rights: rights_made(cont),
     }
 }
 
@@ -222,9 +223,9 @@ fn next_run(alloc: Global, cont: Cont) -> Result<Cont, AllocError>
 }
 
 /// The pages of mmap are made, or their run has a page that is there, or they are too many.
-pub fn pages_made(alloc: Global, cont: Cont, reply: &Reply) -> Result<Step, AllocError>
+fn run_mapped(alloc: Global, cont: Cont, reply: &Reply) -> Result<Step, AllocError>
     requires { KeepsPages cont }
-    ensures { IfOk result (λ step. step ≡ answered.next cont Stage.AllocatePages reply.now) }
+    ensures { IfOk result (λ step. step ≡ answered.mapping_step cont reply.now) }
 {
     match reply {
         Reply::Done => {
@@ -235,6 +236,17 @@ pub fn pages_made(alloc: Global, cont: Cont, reply: &Reply) -> Result<Step, Allo
         Reply::NoRoom => Ok(Asks(finishing(alloc, cont.event, error(ENOMEM)))),
         _ => Ok(Ends),
     }
+}
+
+/// Pages are made, or can't be had.
+pub fn pages_made(alloc: Global, cont: Cont, reply: &Reply) -> Result<Step, AllocError>
+    requires { KeptAt cont Stage.AllocatePages }
+    ensures { IfOk result (λ step. step ≡ answered.next cont Stage.AllocatePages reply.now) }
+{
+    if is_brk(&cont) {
+        return Ok(Step::GivesBreak(cont));
+    }
+    run_mapped(alloc, cont, reply)
 }
 
 /// Pages that are there have changed, or one isn't there, which is this error.

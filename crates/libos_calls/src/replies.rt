@@ -1,26 +1,28 @@
-ghost use Rattle.std.specs.Prelude.{◌≡◌, ◌<◌, IfOk, OnOk, IfSome, [], ◌∷◌, drop};
+ghost use Rattle.std.specs.Prelude.{◌≡◌, ◌<◌, false, IfOk, OnOk, IfSome, [], ◌∷◌, drop};
 ghost use Rattle.mono_model.specs.Machine as machine;
 ghost use Rattle.mono_model.specs.Calls as calls;
 ghost use Rattle.libos_state.specs.declared.state.LibOs.{LibOs};
 ghost use Rattle.libos_state.specs.declared.cont.Cont.{Cont};
 ghost use Rattle.libos_state.specs.Answered as spec;
 ghost use Rattle.libos_state.specs.Pending.{upcall_in, number};
+ghost use Rattle.libos_state.specs.Fits as fits;
 ghost use Rattle.libos_state.specs.Kept.{IsKept, KeptAt};
 ghost use Rattle.libos_state.specs.Laws.{KeepsMeaning};
+ghost use Rattle.libos_state.specs.declared.step.Change.TheVariants.{Begins};
 ghost use Rattle.libos_calls.specs.Left.{calls_left, IsLengthSmall};
 
+use crate::breaking::{give_break, move_break, pages_freed};
+use crate::closing::{duplicate, forget_stream, stream_closed};
 use crate::kept::{A0, items_from, upcall_of};
-use crate::mapping::{EINVAL, ENOMEM, pages_changed, pages_made};
-use crate::start_replies::{
-    at_stage, change_of, child_made, end_opened, event_made, length_told, piece_read,
-    piece_written, program_opened, program_read, run_allocated, run_loaded, thread_made,
-    with_handles,
-};
+use crate::mapping::{ENOMEM, pages_changed, pages_made};
+use crate::start_replies::{change_of, is_of_start, start_step};
 use abi_calls::Reply;
 use bas_edge::Memory;
 use bas_items::Items;
 use libos_state::Step::{Asks, Ends, Stops};
-use libos_state::{Boot, Change, Cont, Event, LibOs, Stage, Step};
+use libos_state::{
+    Boot, Change, Cont, Description, Event, LibOs, ProcessNote, Stage, Step, ThreadNote,
+};
 use rv_core::Context;
 use std::alloc::{AllocError, Global};
 
@@ -116,6 +118,16 @@ fn resuming(mut cont: Cont) -> Cont
     cont
 }
 
+/// The event of the thread that ends is closed, and then the thread exits.
+fn event_closed(alloc: Global, cont: Cont, reply: &Reply) -> Step
+    ensures { result ≡ spec.next cont Stage.CloseEvent reply.now }
+{
+    match reply {
+        Reply::Done => Asks(bare(alloc, cont.event, Stage::ExitThread)),
+        _ => Ends,
+    }
+}
+
 /// A handle of the process that ends is closed.
 fn handle_closed(alloc: Global, cont: Cont) -> Result<Cont, AllocError>
     ensures { IfOk result (λ next. next ≡ spec.service_closing cont (drop 1 cont.handles)) }
@@ -136,14 +148,16 @@ fn buffer_read(alloc: Global, cont: Cont, bytes: Items<u8>) -> Result<Cont, Allo
     Ok(next)
 }
 
-/// What a service does on a reply: one row for each stage. It keeps the reply's bytes where it needs them.
-fn step_of(alloc: Global, cont: Cont, reply: Reply) -> Result<Step, Memory>
-    requires { KeptAt cont cont.stage }
-    ensures value { IfOk result (λ step. step ≡ spec.next cont cont.stage reply) }
-    ensures small { OnOk result (cont.stage ≡ Stage.ProgramLength → IsLengthSmall reply) }
+/// What the service of a trap does on a reply: one row for each stage. It keeps the reply's bytes where it needs them.
+fn trap_step(alloc: Global, cont: Cont, reply: Reply) -> Result<Step, Memory>
+    requires trap { fits.is_of_start cont.stage ≡ false }
+    requires kept { KeptAt cont cont.stage }
+    ensures { IfOk result (λ step. step ≡ spec.next cont cont.stage reply) }
 {
     match (cont.stage, reply) {
         (Stage::SetContext, Reply::Done) => Ok(Asks(resuming(cont))),
+        (Stage::CloseStream, Reply::Done) => Ok(Asks(stream_closed(alloc, cont))),
+        (Stage::CloseEvent, reply) => Ok(event_closed(alloc, cont, &reply)),
         (Stage::CloseHandles, Reply::Done) => Ok(Asks(handle_closed(alloc, cont)?)),
         (Stage::ReadBuffer, Reply::Bytes(bytes)) => Ok(Asks(buffer_read(alloc, cont, bytes)?)),
         (Stage::ReadBuffer, Reply::BadAddress | Reply::NoAccess) => {
@@ -151,44 +165,35 @@ fn step_of(alloc: Global, cont: Cont, reply: Reply) -> Result<Step, Memory>
         }
         (Stage::WriteStream, Reply::Count(count)) => Ok(Asks(finishing(alloc, cont.event, count))),
         (Stage::AllocatePages, reply) => Ok(pages_made(alloc, cont, &reply)?),
-        (Stage::FreePages, reply) => Ok(pages_changed(alloc, cont, &reply, EINVAL)),
+        (Stage::FreePages, reply) => Ok(pages_freed(alloc, cont, &reply)),
         (Stage::ProtectPages, reply) => Ok(pages_changed(alloc, cont, &reply, ENOMEM)),
-        (Stage::Configure, Reply::Done) => Ok(Asks(with_handles(
-            alloc,
-            cont,
-            Stage::OpenConsole,
-            Items::new(alloc),
-        ))),
-        (Stage::OpenConsole, Reply::Handle(handle)) => Ok(Asks(end_opened(alloc, cont, handle)?)),
-        (Stage::OpenProgram, reply) => Ok(program_opened(alloc, cont, &reply)?),
-        (Stage::ProgramLength, reply) => Ok(length_told(alloc, cont, &reply)?),
-        (Stage::ReadProgram, Reply::Bytes(bytes)) => Ok(Asks(piece_read(alloc, cont, &bytes)?)),
-        (Stage::CloseProgram, Reply::Done) => program_read(alloc, cont),
-        (Stage::CreateProcess, Reply::Handle(handle)) => Ok(Asks(child_made(alloc, cont, handle)?)),
-        (Stage::AllocateRun, Reply::Done) => Ok(Asks(run_allocated(alloc, cont)?)),
-        (Stage::WriteRun, Reply::Done) => Ok(Asks(piece_written(alloc, cont)?)),
-        (Stage::ProtectRun, Reply::Done) => Ok(Asks(run_loaded(alloc, cont)?)),
-        (Stage::AllocateStack, Reply::Done) => Ok(Asks(at_stage(alloc, cont, Stage::WriteBlock))),
-        (Stage::WriteBlock, Reply::Done) => Ok(Asks(at_stage(alloc, cont, Stage::CreateThread))),
-        (Stage::CreateThread, Reply::Handle(handle)) => Ok(Asks(thread_made(alloc, cont, handle)?)),
-        (Stage::CreateEvent, Reply::Handle(handle)) => Ok(Asks(event_made(alloc, cont, handle)?)),
-        (Stage::StartThread, Reply::Done) => Ok(Stops(Boot::Up)),
         _ => Ok(Ends),
     }
 }
 
-/// Changes the records.
-fn change_records(os: &mut LibOs, alloc: Global, change: Change) -> Result<(), AllocError>
-    ensures { OnOk result (os.new ≡ spec.with_change os.old change) }
+/// What a service does on a reply.
+fn step_of(alloc: Global, cont: Cont, reply: Reply) -> Result<Step, Memory>
+    requires { KeptAt cont cont.stage }
+    ensures value { IfOk result (λ step. step ≡ spec.next cont cont.stage reply) }
+    ensures small { OnOk result (cont.stage ≡ Stage.ProgramLength → IsLengthSmall reply) }
 {
-    let Change::Begins {
-        process,
-        thread,
-        descriptions,
-    } = change
-    else {
-        return Ok(());
-    };
+    if is_of_start(cont.stage) {
+        start_step(alloc, cont, reply)
+    } else {
+        trap_step(alloc, cont, reply)
+    }
+}
+
+/// The records begin: the run's first process and its thread, and what is open.
+fn begin_records(
+    os: &mut LibOs,
+    alloc: Global,
+    process: ProcessNote,
+    thread: ThreadNote,
+    descriptions: Items<Description>,
+) -> Result<(), AllocError>
+    ensures { OnOk result (os.new ≡ spec.with_change os.old (Begins process thread descriptions)) }
+{
     let mut processes = Items::new(alloc);
     processes.push(process)?;
     os.threads = Items::from_slice(alloc, &[thread])?;
@@ -198,12 +203,38 @@ fn change_records(os: &mut LibOs, alloc: Global, change: Change) -> Result<(), A
     Ok(())
 }
 
+/// Changes the records.
+fn change_records(os: &mut LibOs, alloc: Global, change: Change) -> Result<(), AllocError>
+    ensures { OnOk result (os.new ≡ spec.with_change os.old change) }
+{
+    match change {
+        Change::Same => Ok(()),
+        Change::Closes { handle } => forget_stream(os, alloc, handle),
+        Change::Replaces {
+            handle,
+            process,
+            old,
+            new,
+        } => {
+            forget_stream(os, alloc, handle)?;
+            duplicate(os, alloc, process, old, new)
+        }
+        Change::MovesBreak { process, address } => move_break(os, alloc, process, address),
+        Change::Begins {
+            process,
+            thread,
+            descriptions,
+        } => begin_records(os, alloc, process, thread, descriptions),
+    }
+}
+
 /// The service goes on, or ends.
-fn take_step(os: &mut LibOs, step: Step)
+fn take_step(os: &mut LibOs, alloc: Global, step: Step)
     ensures { os.new ≡ spec.with_step os.old step }
 {
     match step {
         Step::Asks(cont) => os.cont = Some(cont),
+        Step::GivesBreak(cont) => give_break(os, alloc, cont.event),
         Step::Ends => os.cont = None,
         Step::Stops(boot) => {
             os.boot = boot;
@@ -226,7 +257,7 @@ fn take_reply(os: &mut LibOs, alloc: Global, reply: Reply) -> Result<(), Memory>
     let change = change_of(alloc, &cont, &reply)?;
     let step = step_of(alloc, cont, reply)?;
     change_records(os, alloc, change)?;
-    take_step(os, step);
+    take_step(os, alloc, step);
     Ok(())
 }
 

@@ -1,20 +1,24 @@
-ghost use Rattle.std.specs.Prelude.{◌≡◌, ◌+◌, IfOk, OnOk, [], ◌∷◌, ◌++◌, length};
+ghost use Rattle.std.specs.Prelude.{◌≡◌, ◌≢◌, ◌+◌, true, IfOk, OnOk, [], ◌∷◌, ◌++◌, length};
 ghost use Rattle.elf_loader.specs.Image.{loaded};
 ghost use Rattle.libos_state.specs.Pending as pending;
 ghost use Rattle.libos_state.specs.Pending.{number, run_piece};
 ghost use Rattle.libos_state.specs.declared.cont.Cont.{Cont};
 ghost use Rattle.libos_state.specs.Answered as spec;
+ghost use Rattle.libos_state.specs.Fits as fits;
 ghost use Rattle.libos_state.specs.Fits.{KeepsProgram, KeepsRun, KeepsPlace};
 ghost use Rattle.libos_state.specs.Kept.{KeptAt};
 ghost use Rattle.libos_calls.specs.Left.{IsLengthSmall};
 
+use crate::breaking::break_change;
 use crate::calls::PIECE;
+use crate::closing::change_of_stream;
 use crate::kept::{first_items, number_at};
 use crate::program::{PAGE, count_of_runs, end_of, refusal_of};
 use crate::start_calls::run_in;
 use abi_calls::Reply;
 use bas_edge::Memory;
 use bas_items::Items;
+use libos_state::Step::{Asks, Ends, Stops};
 use libos_state::{
     Boot, Change, Cont, Description, DescriptorNote, Kind, ProcessNote, Stage, Step, ThreadNote,
 };
@@ -38,7 +42,7 @@ fn with_handle(alloc: Global, handles: &[u64], handle: u64) -> Result<Items<u64>
 }
 
 /// A start that keeps these handles and nothing else.
-pub fn with_handles(alloc: Global, mut cont: Cont, stage: Stage, handles: Items<u64>) -> Cont
+fn with_handles(alloc: Global, mut cont: Cont, stage: Stage, handles: Items<u64>) -> Cont
     ensures { result ≡ spec.starting cont stage [] handles [] }
 {
     cont.stage = stage;
@@ -49,7 +53,7 @@ pub fn with_handles(alloc: Global, mut cont: Cont, stage: Stage, handles: Items<
 }
 
 /// A start that keeps its bytes and handles.
-pub fn at_stage(alloc: Global, mut cont: Cont, stage: Stage) -> Cont
+fn at_stage(alloc: Global, mut cont: Cont, stage: Stage) -> Cont
     ensures { result ≡ spec.starting cont stage cont.bytes cont.handles [] }
 {
     cont.stage = stage;
@@ -58,7 +62,7 @@ pub fn at_stage(alloc: Global, mut cont: Cont, stage: Stage) -> Cont
 }
 
 /// The next end of the console is open.
-pub fn end_opened(alloc: Global, cont: Cont, handle: u64) -> Result<Cont, AllocError>
+fn end_opened(alloc: Global, cont: Cont, handle: u64) -> Result<Cont, AllocError>
     ensures { IfOk result (λ next. next ≡ spec.start_opening cont (cont.handles ++ handle ∷ [])) }
 {
     let handles = with_handle(alloc, cont.handles.as_slice(), handle)?;
@@ -82,7 +86,7 @@ fn length_known(alloc: Global, mut cont: Cont, length: u64) -> Result<Cont, Allo
 }
 
 /// More of the program was read.
-pub fn piece_read(alloc: Global, mut cont: Cont, piece: &Items<u8>) -> Result<Cont, AllocError>
+fn piece_read(alloc: Global, mut cont: Cont, piece: &Items<u8>) -> Result<Cont, AllocError>
     requires { cont.stage ≡ Stage.ReadProgram }
     ensures { IfOk result (λ next. next ≡ spec.start_with_piece cont piece.now) }
 {
@@ -113,7 +117,7 @@ fn written_to(alloc: Global, mut cont: Cont, written: u64, size: u64) -> Result<
 }
 
 /// The process is made, whose memory gets the program's runs.
-pub fn child_made(alloc: Global, mut cont: Cont, handle: u64) -> Result<Cont, AllocError>
+fn child_made(alloc: Global, mut cont: Cont, handle: u64) -> Result<Cont, AllocError>
     ensures { IfOk result (λ next. next
         ≡ spec.starting cont Stage.AllocateRun cont.bytes (cont.handles ++ handle ∷ []) (0 ∷ [])) }
 {
@@ -124,7 +128,7 @@ pub fn child_made(alloc: Global, mut cont: Cont, handle: u64) -> Result<Cont, Al
 }
 
 /// The run has its pages, of which none is written.
-pub fn run_allocated(alloc: Global, mut cont: Cont) -> Result<Cont, AllocError>
+fn run_allocated(alloc: Global, mut cont: Cont) -> Result<Cont, AllocError>
     ensures { IfOk result (λ next.
         next ≡ spec.starting cont Stage.WriteRun cont.bytes cont.handles (number cont 0 ∷ 0 ∷ [])) }
 {
@@ -135,7 +139,7 @@ pub fn run_allocated(alloc: Global, mut cont: Cont) -> Result<Cont, AllocError>
 }
 
 /// The thread is made.
-pub fn thread_made(alloc: Global, mut cont: Cont, handle: u64) -> Result<Cont, AllocError>
+fn thread_made(alloc: Global, mut cont: Cont, handle: u64) -> Result<Cont, AllocError>
     ensures { IfOk result (λ next. next
         ≡ spec.starting cont Stage.CreateEvent cont.bytes (cont.handles ++ handle ∷ []) []) }
 {
@@ -144,7 +148,7 @@ pub fn thread_made(alloc: Global, mut cont: Cont, handle: u64) -> Result<Cont, A
 }
 
 /// The thread's event is made.
-pub fn event_made(alloc: Global, mut cont: Cont, handle: u64) -> Result<Cont, AllocError>
+fn event_made(alloc: Global, mut cont: Cont, handle: u64) -> Result<Cont, AllocError>
     ensures { IfOk result (λ next. next
         ≡ spec.starting cont Stage.StartThread cont.bytes (cont.handles ++ handle ∷ []) []) }
 {
@@ -153,7 +157,7 @@ pub fn event_made(alloc: Global, mut cont: Cont, handle: u64) -> Result<Cont, Al
 }
 
 /// A piece of the run is written.
-pub fn piece_written(alloc: Global, cont: Cont) -> Result<Cont, Memory>
+fn piece_written(alloc: Global, cont: Cont) -> Result<Cont, Memory>
     requires stage { cont.stage ≡ Stage.WriteRun }
     requires kept { KeepsPlace cont }
     ensures { IfOk result (λ next.
@@ -167,7 +171,7 @@ pub fn piece_written(alloc: Global, cont: Cont) -> Result<Cont, Memory>
 }
 
 /// The run has its rights: the next one follows, or the stack.
-pub fn run_loaded(alloc: Global, mut cont: Cont) -> Result<Cont, Memory>
+fn run_loaded(alloc: Global, mut cont: Cont) -> Result<Cont, Memory>
     requires stage { cont.stage ≡ Stage.ProtectRun }
     requires kept { KeepsRun cont }
     ensures { IfOk result (λ next. next ≡ spec.start_loading cont (number cont 0 + 1)) }
@@ -263,13 +267,15 @@ pub fn change_of(alloc: Global, cont: &Cont, reply: &Reply) -> Result<Change, Me
     ensures { IfOk result (λ change. change ≡ spec.change cont.now cont.now.stage reply.now) }
 {
     match (cont.stage, reply) {
+        (Stage::CloseStream, Reply::Done) => Ok(change_of_stream(cont)),
+        (Stage::AllocatePages | Stage::FreePages, Reply::Done) => Ok(break_change(cont)),
         (Stage::StartThread, Reply::Done) => first_records(alloc, cont),
         _ => Ok(Change::Same),
     }
 }
 
 /// What the start does with the bytes of the closed file: they are a program, or it stops with the loader's refusal.
-pub fn program_read(alloc: Global, mut cont: Cont) -> Result<Step, Memory>
+fn program_read(alloc: Global, mut cont: Cont) -> Result<Step, Memory>
     ensures { IfOk result (λ step. step ≡ spec.load_step cont (loaded cont.bytes)) }
 {
     if let Some(cause) = refusal_of(alloc, cont.bytes.as_slice())? {
@@ -280,7 +286,7 @@ pub fn program_read(alloc: Global, mut cont: Cont) -> Result<Step, Memory>
 }
 
 /// What the start does where the program's file is open, or can't be opened.
-pub fn program_opened(alloc: Global, cont: Cont, reply: &Reply) -> Result<Step, AllocError>
+fn program_opened(alloc: Global, cont: Cont, reply: &Reply) -> Result<Step, AllocError>
     ensures { IfOk result (λ step. step ≡ spec.next cont Stage.OpenProgram reply.now) }
 {
     let Reply::Handle(handle) = reply else {
@@ -291,7 +297,7 @@ pub fn program_opened(alloc: Global, cont: Cont, reply: &Reply) -> Result<Step, 
 }
 
 /// What the start does where the program's length is known.
-pub fn length_told(alloc: Global, cont: Cont, reply: &Reply) -> Result<Step, AllocError>
+fn length_told(alloc: Global, cont: Cont, reply: &Reply) -> Result<Step, AllocError>
     ensures value { IfOk result (λ step. step ≡ spec.next cont Stage.ProgramLength reply.now) }
     ensures small { OnOk result (IsLengthSmall reply.now) }
 {
@@ -300,4 +306,125 @@ pub fn length_told(alloc: Global, cont: Cont, reply: &Reply) -> Result<Step, All
     };
     let next = length_known(alloc, cont, *length)?;
     Ok(Step::Asks(next))
+}
+
+/// Whether the stage is of the start of a run.
+pub fn is_of_start(stage: Stage) -> bool
+    ensures { result ≡ fits.is_of_start stage }
+{
+    match stage {
+        Stage::SetContext
+        | Stage::Resume
+        | Stage::CloseStream
+        | Stage::CloseEvent
+        | Stage::ExitThread
+        | Stage::CloseHandles
+        | Stage::ExitProcess
+        | Stage::ReadBuffer
+        | Stage::WriteStream
+        | Stage::AllocatePages
+        | Stage::FreePages
+        | Stage::ProtectPages => false,
+        _ => true,
+    }
+}
+
+/// What the start does where the host has the settings.
+fn settings_taken(alloc: Global, cont: Cont, reply: &Reply) -> Step
+    ensures { result ≡ spec.next cont Stage.Configure reply.now }
+{
+    match reply {
+        Reply::Done => Asks(with_handles(alloc, cont, Stage::OpenConsole, Items::new(alloc))),
+        _ => Ends,
+    }
+}
+
+/// What the start does where the stack's pages are made.
+fn stack_made(alloc: Global, cont: Cont, reply: &Reply) -> Step
+    ensures { result ≡ spec.next cont Stage.AllocateStack reply.now }
+{
+    match reply {
+        Reply::Done => Asks(at_stage(alloc, cont, Stage::WriteBlock)),
+        _ => Ends,
+    }
+}
+
+/// What the start does where the argument block is written.
+fn block_written(alloc: Global, cont: Cont, reply: &Reply) -> Step
+    ensures { result ≡ spec.next cont Stage.WriteBlock reply.now }
+{
+    match reply {
+        Reply::Done => Asks(at_stage(alloc, cont, Stage::CreateThread)),
+        _ => Ends,
+    }
+}
+
+/// What the start does on a reply from the making of the process on: one row for each stage.
+fn making_step(alloc: Global, cont: Cont, reply: Reply) -> Result<Step, Memory>
+    requires start { fits.is_of_start cont.stage ≡ true }
+    requires loaded { cont.stage ≢ Stage.Configure × cont.stage ≢ Stage.OpenConsole × cont.stage ≢ Stage.OpenProgram
+        × cont.stage ≢ Stage.ProgramLength × cont.stage ≢ Stage.ReadProgram × cont.stage ≢ Stage.CloseProgram }
+    requires kept { KeptAt cont cont.stage }
+    ensures { IfOk result (λ step. step ≡ spec.next cont cont.stage reply) }
+{
+    match cont.stage {
+        Stage::CreateProcess => match reply {
+            Reply::Handle(handle) => Ok(Asks(child_made(alloc, cont, handle)?)),
+            _ => Ok(Ends),
+        },
+        Stage::AllocateRun => match reply {
+            Reply::Done => Ok(Asks(run_allocated(alloc, cont)?)),
+            _ => Ok(Ends),
+        },
+        Stage::WriteRun => match reply {
+            Reply::Done => Ok(Asks(piece_written(alloc, cont)?)),
+            _ => Ok(Ends),
+        },
+        Stage::ProtectRun => match reply {
+            Reply::Done => Ok(Asks(run_loaded(alloc, cont)?)),
+            _ => Ok(Ends),
+        },
+        Stage::AllocateStack => Ok(stack_made(alloc, cont, &reply)),
+        Stage::WriteBlock => Ok(block_written(alloc, cont, &reply)),
+        Stage::CreateThread => match reply {
+            Reply::Handle(handle) => Ok(Asks(thread_made(alloc, cont, handle)?)),
+            _ => Ok(Ends),
+        },
+        Stage::CreateEvent => match reply {
+            Reply::Handle(handle) => Ok(Asks(event_made(alloc, cont, handle)?)),
+            _ => Ok(Ends),
+        },
+        Stage::StartThread => match reply {
+            Reply::Done => Ok(Stops(Boot::Up)),
+            _ => Ok(Ends),
+        },
+        _ => unreachable!(),
+    }
+}
+
+/// What the start of a run does on a reply: one row for each stage. It keeps the reply's bytes where it needs them.
+pub fn start_step(alloc: Global, cont: Cont, reply: Reply) -> Result<Step, Memory>
+    requires start { fits.is_of_start cont.stage ≡ true }
+    requires kept { KeptAt cont cont.stage }
+    ensures value { IfOk result (λ step. step ≡ spec.next cont cont.stage reply) }
+    ensures small { OnOk result (cont.stage ≡ Stage.ProgramLength → IsLengthSmall reply) }
+{
+    match cont.stage {
+        Stage::Configure => Ok(settings_taken(alloc, cont, &reply)),
+        Stage::OpenConsole => match reply {
+            Reply::Handle(handle) => Ok(Asks(end_opened(alloc, cont, handle)?)),
+            _ => Ok(Ends),
+        },
+        Stage::OpenProgram => Ok(program_opened(alloc, cont, &reply)?),
+        Stage::ProgramLength => Ok(length_told(alloc, cont, &reply)?),
+        Stage::ReadProgram => match reply {
+            Reply::Bytes(bytes) => Ok(Asks(piece_read(alloc, cont, &bytes)?)),
+            _ => Ok(Ends),
+        },
+        Stage::CloseProgram => match reply {
+            Reply::Done => program_read(alloc, cont),
+            _ => Ok(Ends),
+        },
+        _ => making_step(alloc, cont, reply),
+    }
 }

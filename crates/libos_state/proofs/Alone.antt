@@ -23,15 +23,15 @@ use Rattle.libos_state.specs.declared.cont.Cont.{Cont}
 use Rattle.libos_state.specs.declared.cont.Event.{Event}
 use Rattle.libos_state.specs.declared.cont.Event.TheVariants as event
 use Rattle.libos_state.specs.declared.cont.Stage.{Stage}
-use Rattle.libos_state.specs.declared.cont.Stage.TheVariants.{CloseHandles, ExitProcess, WriteStream, AllocatePages, FreePages, ProtectPages, Configure, OpenConsole, ReadProgram, CreateProcess, AllocateRun, WriteRun, ProtectRun, AllocateStack, WriteBlock, CreateThread, CreateEvent, StartThread}
+use Rattle.libos_state.specs.declared.cont.Stage.TheVariants.{CloseStream, CloseHandles, ExitProcess, WriteStream, AllocatePages, FreePages, ProtectPages, Configure, OpenConsole, ReadProgram, CreateProcess, AllocateRun, WriteRun, ProtectRun, AllocateStack, WriteBlock, CreateThread, CreateEvent, StartThread}
 use Rattle.libos_state.specs.declared.state.Boot.{Boot}
 use Rattle.libos_state.specs.declared.state.Boot.TheVariants as boot
 use Rattle.libos_state.specs.declared.state.LibOs.{LibOs}
 use Rattle.libos_state.specs.Records.{process_named, process_with, thread_named}
-use Rattle.libos_state.specs.Pending.{upcall_in, number, program_name, arguments, runs_in, run_in}
+use Rattle.libos_state.specs.Pending.{upcall_in, number, is_brk, program_name, arguments, runs_in, run_in}
 use Rattle.libos_state.specs.Named.{consoles, kinds_at}
-use Rattle.libos_state.specs.Fits.{Fits, FitsCont, FitsBoot, FitsEvent, FitsNone, FitsRecords, are_distinct, is_given, is_fit_process, is_alive, is_described, is_fit_access, KeepsLists, HasHandles, FitsNames, AreNames, KeepsCode, KeepsPages, KeepsSize, KeepsRun, KeepsPlace, FitsKept, is_none, keeps_next, keeps_names, keeps_bytes, numbers_at, is_ended_with, is_fit_parent, is_fit_append, LAST_ID}
-use Rattle.libos_state.specs.Alone.{fits_records, has_first, HasNoRecords, has_no_records, FitsProgress, fits_progress, serves_in, FitsAlone, fits_alone, event_comes_to, FitsService, is_same_context, has_handles, keeps_lists, fits_names, are_names, keeps_code, keeps_pages, keeps_size, keeps_run, keeps_place, is_zero_alone, fits_kept, fits_service, FitsServices, IsAtEvent, HasConsoles, FitsSettledObjects, FitsWorld}
+use Rattle.libos_state.specs.Fits.{Fits, FitsCont, FitsBoot, FitsEvent, FitsNone, FitsRecords, are_distinct, is_given, is_fit_process, is_alive, is_described, is_fit_access, KeepsLists, HasHandles, FitsNames, AreNames, KeepsCode, KeepsPages, KeepsMade, KeepsSize, KeepsRun, KeepsPlace, FitsKept, is_none, keeps_next, keeps_names, keeps_bytes, numbers_at, is_ended_with, is_fit_parent, is_fit_append, LAST_ID, closes_new}
+use Rattle.libos_state.specs.Alone.{fits_records, has_first, HasNoRecords, has_no_records, FitsProgress, fits_progress, serves_in, FitsAlone, fits_alone, event_comes_to, FitsService, is_same_context, has_handles, keeps_lists, fits_names, are_names, keeps_code, keeps_pages, keeps_made, keeps_size, keeps_run, keeps_place, is_zero_alone, fits_kept, fits_service, FitsServices, IsAtEvent, HasConsoles, FitsSettledObjects, FitsWorld}
 
 -- ---- tests and what they tell
 
@@ -163,6 +163,10 @@ Decides-keeps_pages c = Decides-like (keeps_pages c)
     (Decides-and _ _ (Decides-leb 1 (number c 1)) (Decides-and _ _ (Decides-leb (number c 1) MOST_PAGES)
     (Decides-and _ _ (Decides-leb FIRST_MAPPED (number c 0)) (Decides-leb (number c 0 + number c 1) STACK_PAGE))))
 
+Decides-keeps_made : (c : Cont) (brk : Bool) → Decides (keeps_made c brk) (KeepsMade c brk)
+Decides-keeps_made c true = Decides-leb 1 (number c 1)
+Decides-keeps_made c false = Decides-keeps_pages c
+
 Decides-keeps_run : (c : Cont) → Decides (keeps_run c) (KeepsRun c)
 Decides-keeps_run c = Decides-like (keeps_run c)
     (λ p. record { program = p.0; among = p.1 })
@@ -176,10 +180,11 @@ Decides-keeps_place c = Decides-like (keeps_place c)
     (Decides-and (keeps_run c) _ (Decides-keeps_run c) (Decides-ltb (number c 1) (length (run_in c).bytes)))
 
 Decides-fits_kept : (os : LibOs) (c : Cont) (stage : Stage) → Decides (fits_kept os c stage) (FitsKept os c stage)
+Decides-fits_kept os c CloseStream = is_true (closes_new os c)
 Decides-fits_kept os c CloseHandles = Decides-keeps_code os c c.numbers refl
 Decides-fits_kept os c ExitProcess = Decides-keeps_code os c c.numbers refl
 Decides-fits_kept os c WriteStream = Decides-and _ _ (Decides-zero_alone c.numbers) (Decides-eqb (length c.bytes) (moved (register (upcall_in c.event).context 12)))
-Decides-fits_kept os c AllocatePages = Decides-keeps_pages c
+Decides-fits_kept os c AllocatePages = Decides-keeps_made c (is_brk c)
 Decides-fits_kept os c FreePages = Decides-leb 1 (number c 1)
 Decides-fits_kept os c ProtectPages = Decides-leb 1 (number c 1)
 Decides-fits_kept os c Configure = is_true (is_acceptable os.settings)

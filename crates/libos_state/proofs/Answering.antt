@@ -1,5 +1,5 @@
 -- What the stages owe, collected: the answered library OS keeps what it stands for.
-use Rattle.std.specs.Prelude.{◌≡◌, ℕ, true, false}
+use Rattle.std.specs.Prelude.{◌≡◌, ℕ, Bool, true, false, if◌then◌else◌, cond}
 use Rattle.std.specs.declared.option.Option.{Option}
 use Rattle.std.specs.declared.option.Option.TheVariants.{None, Some}
 use Rattle.std.proofs.Common.{refl, subst, ◌∙◌}
@@ -7,17 +7,23 @@ use Rattle.abi_calls.specs.declared.call.Call.{Call}
 use Rattle.abi_calls.specs.declared.reply.Reply.{Reply}
 use Rattle.abi_calls.specs.declared.reply.Reply.TheVariants.{Done, Bytes, Count, Exists, BadAddress, NoAccess, NoRoom}
 use Rattle.abi_calls.specs.Sound.{IsSound}
-use Rattle.mono_model.specs.Calls.{ENOMEM, EINVAL}
+use Rattle.mono_model.specs.Machine.{register}
+use Rattle.mono_model.specs.Calls.{ENOMEM, EINVAL, DUP3}
 use Rattle.libos_state.specs.declared.cont.Cont.{Cont}
 use Rattle.libos_state.specs.declared.cont.Stage.{Stage}
-use Rattle.libos_state.specs.declared.cont.Stage.TheVariants.{SetContext, Resume, CloseHandles, ExitProcess, ReadBuffer, WriteStream, AllocatePages, FreePages, ProtectPages}
+use Rattle.libos_state.specs.declared.cont.Stage.TheVariants.{SetContext, Resume, CloseEvent, ExitThread, CloseHandles, ExitProcess, ReadBuffer, WriteStream, AllocatePages, FreePages, ProtectPages, CloseStream}
 use Rattle.libos_state.specs.declared.state.Boot.TheVariants.{Going, Up}
+use Rattle.libos_state.specs.declared.notes.Description.{Description}
 use Rattle.libos_state.specs.declared.state.LibOs.{LibOs}
-use Rattle.libos_state.specs.Records.{View, visible}
-use Rattle.libos_state.specs.Pending.{asked, asked_by}
-use Rattle.libos_state.specs.Answered.{with_step, changed_step, answered, answered_at, answered_in}
+use Rattle.libos_state.specs.Records.{View, visible, description_with, description_behind, pid_with}
+use Rattle.libos_state.specs.declared.step.Change.TheVariants.{Same, MovesBreak, Closes, Replaces}
+use Rattle.libos_state.specs.declared.step.Step.{Step}
+use Rattle.libos_state.specs.declared.step.Step.TheVariants.{GivesBreak, Ends}
+use Rattle.libos_state.specs.Pending.{asked, asked_by, is_brk, upcall_in, handle}
+use Rattle.libos_state.specs.Answered.{with_step, with_change, mapping_step, changed_step, answered, answered_at, answered_in, duplicated, closing_change}
+use Rattle.libos_state.specs.Descriptors.{without_description, without_stream}
 use Rattle.libos_state.specs.Meaning.{meaning, meant}
-use Rattle.libos_state.specs.Fits.{Fits, FitsStage, FitsCont, is_of_start}
+use Rattle.libos_state.specs.Fits.{Fits, FitsStage, FitsCont, is_of_start, is_call}
 use Rattle.libos_state.specs.Laws.{Keeps, KeepsMeaning}
 use Rattle.libos_state.proofs.Holds.{Holds, HoldsQuietly}
 use Rattle.libos_state.proofs.Serving.{trap_of}
@@ -36,12 +42,47 @@ changed_boot os c refused Done = refl
 changed_boot os c refused BadAddress = refl
 changed_boot os c refused _ = refl
 
+-- A break that is given, and one that moves, leave how far the start is.
+given_boot : (os : LibOs) (c : Cont) (brk : Bool) (step : Step) → (with_step os step).boot ≡ os.boot
+    → (with_step os (if brk then GivesBreak c else step)).boot ≡ os.boot
+given_boot os c true step stays = refl
+given_boot os c false step stays = stays
+
+moved_boot : (os : LibOs) (c : Cont) (brk : Bool) (process address : ℕ) (step : Step) → (with_step os step).boot ≡ os.boot
+    → (with_step (with_change os (if brk then MovesBreak process address else Same)) (if brk then GivesBreak c else step)).boot ≡ os.boot
+moved_boot os c true process address step stays = refl
+moved_boot os c false process address step stays = stays
+
+-- What closes a stream leaves how far the start is.
+duplicated_boot : (os : LibOs) (p new : ℕ) (x : Option Description) → (duplicated os p new x).boot ≡ os.boot
+duplicated_boot os p new None = refl
+duplicated_boot os p new (Some d) = refl
+
+gone_boot : (os : LibOs) (x : Option Description) → (without_description os x).boot ≡ os.boot
+gone_boot os None = refl
+gone_boot os (Some d) = refl
+
+closed_boot : (os : LibOs) (c : Cont) → (with_change os (closing_change c)).boot ≡ os.boot
+closed_boot os c =
+    let u = upcall_in c.event in
+    let gone = gone_boot os (description_with (handle c 0) os.descriptions) in
+    let left = without_stream os (handle c 0) in
+    elim (is_call u DUP3) as (λ b. (with_change os (cond b (Replaces (handle c 0) u.process (register u.context 10) (register u.context 11)) (Closes (handle c 0)))).boot ≡ os.boot) [
+      | true ↦ duplicated_boot left (pid_with left u.process) (register u.context 11) (description_behind left u.process (register u.context 10)) ∙ gone
+      | false ↦ gone
+    ]
+
 -- A service on a trap leaves how far the start is.
 boot_stays : (os : LibOs) (c : Cont) (stage : Stage) (r : Reply) → is_of_start stage ≡ false
     → (answered_at os c stage r).boot ≡ os.boot
 boot_stays os c SetContext Done other = refl
 boot_stays os c SetContext _ other = refl
 boot_stays os c Resume _ other = refl
+boot_stays os c CloseStream Done other = closed_boot os c
+boot_stays os c CloseStream _ other = refl
+boot_stays os c CloseEvent Done other = refl
+boot_stays os c CloseEvent _ other = refl
+boot_stays os c ExitThread _ other = refl
 boot_stays os c CloseHandles Done other = refl
 boot_stays os c CloseHandles _ other = refl
 boot_stays os c ExitProcess _ other = refl
@@ -51,11 +92,13 @@ boot_stays os c ReadBuffer NoAccess other = refl
 boot_stays os c ReadBuffer _ other = refl
 boot_stays os c WriteStream (Count n) other = refl
 boot_stays os c WriteStream _ other = refl
-boot_stays os c AllocatePages Done other = refl
-boot_stays os c AllocatePages Exists other = refl
-boot_stays os c AllocatePages NoRoom other = refl
-boot_stays os c AllocatePages _ other = refl
-boot_stays os c FreePages r other = changed_boot os c EINVAL r
+boot_stays os c AllocatePages Done other = moved_boot os c (is_brk c) _ _ (mapping_step c Done) refl
+boot_stays os c AllocatePages Exists other = given_boot os c (is_brk c) (mapping_step c Exists) refl
+boot_stays os c AllocatePages NoRoom other = given_boot os c (is_brk c) (mapping_step c NoRoom) refl
+boot_stays os c AllocatePages _ other = given_boot os c (is_brk c) Ends refl
+boot_stays os c FreePages Done other = moved_boot os c (is_brk c) _ _ (changed_step c EINVAL Done) refl
+boot_stays os c FreePages BadAddress other = given_boot os c (is_brk c) (changed_step c EINVAL BadAddress) refl
+boot_stays os c FreePages _ other = given_boot os c (is_brk c) Ends refl
 boot_stays os c ProtectPages r other = changed_boot os c ENOMEM r
 boot_stays os c _ r other = absurd (cc)
 

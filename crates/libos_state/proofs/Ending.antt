@@ -29,7 +29,7 @@ use Rattle.libos_state.specs.Records.{View, Visible, visible, with_visible, base
 use Rattle.libos_state.specs.Pending.{asked, upcall_in, handle, number}
 use Rattle.libos_state.specs.Answered.{goes_on, ends, service_closing}
 use Rattle.libos_state.specs.Meaning.{settles, meaning, meant_settled}
-use Rattle.libos_state.specs.Named.{Named, ObjectKind, AProcess, AThread, AnEvent, AConsole, AFile, ToClose, is_of, recorded, times_named}
+use Rattle.libos_state.specs.Named.{Named, ObjectKind, AProcess, AThread, AnEvent, AConsole, AFile, AStream, ToClose, is_of, recorded, times_named}
 use Rattle.libos_state.specs.Fits.{FitsRecords, FitsObjects, FitsStage, FitsCont, FitsUp, FitsBoot, FitsEvent, FitsTrap, KeepsCode, is_to_name, is_code, has_code, handle_in, is_home, is_ended_with}
 use Rattle.libos_state.proofs.Holds.{Holds}
 use Rattle.libos_state.proofs.Rows.{Stands, by_row}
@@ -172,6 +172,7 @@ exited_kind AThread memory code is = absurd (cc)
 exited_kind AnEvent memory code is = absurd (cc)
 exited_kind (AConsole kind) memory code is = absurd (no_console kind memory is)
 exited_kind AFile memory code is = absurd (cc)
+exited_kind AStream memory code is = absurd (cc)
 exited_kind ToClose memory code is = absurd (cc)
 
 -- What has the code of a record is no thread.

@@ -1,17 +1,19 @@
 -- The library OS begins to serve a trap: it stands for the machine that has served it.
-use Rattle.std.specs.Prelude.{◌≡◌, ℕ, ◌/◌, ◌%◌, ◌==◌, ◌<◌, Bool, true, false, cond, if◌then◌else◌, not, ◌&&◌, ◌||◌, [], ◌∷◌, bit_and, is_some}
+use Rattle.std.specs.Prelude.{◌≡◌, ℕ, ◌-◌, ◌/◌, ◌%◌, ◌==◌, ◌≤◌, ◌<◌, nat_lt, Bool, true, false, cond, if◌then◌else◌, not, ◌&&◌, ◌||◌, [], ◌∷◌, bit_and, is_some}
 use Rattle.std.specs.Option.{option_map}
 use Rattle.std.specs.declared.option.Option.{Option}
 use Rattle.std.specs.declared.option.Option.TheVariants.{None, Some}
-use Rattle.std.proofs.Common.{arith, refl, sym, ap, subst, ◌∙◌, eq-eqb, eqb-true}
-use Rattle.std.proofs.lemmas.Bool.{cond-true, and_from, or_left, or_right}
+use Rattle.std.proofs.Common.{arith, refl, sym, ap, subst, ◌∙◌, eq-eqb, eqb-true, ltb-true}
+use Rattle.std.proofs.lemmas.Bool.{cond-true, and_from, or_left, or_right, and_parts}
 use Rattle.turn_sched.specs.Lists.{is_at}
 use Rattle.abi_calls.specs.declared.threads.Turned.{Turned}
 use Rattle.abi_calls.specs.declared.threads.Turned.TheVariants.{Exception}
 use Rattle.abi_calls.specs.declared.threads.Upcall.{Upcall}
 use Rattle.abi_calls.specs.Objects.{Objects, object_at}
 use Rattle.mono_model.specs.Machine.{Mono, register, process_at}
-use Rattle.mono_model.specs.Calls.{Caller, Served, WRITE, MUNMAP, MMAP, MPROTECT, EBADF, ENOSYS, error, unless_known, munmap_known, munmap, free_pages, mprotect_known, mprotect, protect_pages, mmap_known, mmap, map_from, memory_call, fault_code, finished, silently, ended, description_of, write, write_to, write_from, writable, moved, exit, system_call, served, is_exit, SCHED_YIELD, GETPID, GETPPID, GETTID, parent_in}
+use Rattle.mono_model.specs.declared.breaks.BreakMove.{BreakMove}
+use Rattle.mono_model.specs.declared.breaks.BreakMove.TheVariants.{Grows, Shrinks, Within, Stays}
+use Rattle.mono_model.specs.Calls.{Caller, Served, WRITE, BRK, brk, grow_break, shrink_break, MUNMAP, MMAP, MPROTECT, EBADF, ENOSYS, error, unless_known, munmap_known, munmap, free_pages, mprotect_known, mprotect, protect_pages, mmap_known, mmap, map_from, memory_call, fault_code, finished, silently, ended, description_of, write, write_to, write_from, writable, moved, exit, system_call, served, is_exit, SCHED_YIELD, GETPID, GETPPID, GETTID, parent_in, EXIT, DUP, DUP3, CLOSE, close, dup, dup3_known, dup3, descriptor_call}
 use Rattle.mono_model.specs.Mapping.{FIRST_MAPPED, pages_for}
 use Rattle.mono_model.specs.Calls as calls
 use Rattle.mono_model.specs.Starting.{Runs}
@@ -23,21 +25,25 @@ use Rattle.libos_state.specs.declared.notes.ProcessNote.{ProcessNote}
 use Rattle.libos_state.specs.declared.state.LibOs.{LibOs}
 use Rattle.libos_state.specs.declared.state.Boot.TheVariants.{Up}
 use Rattle.libos_state.specs.Records.{Visible, with_visible, base, description_behind, description_seen, stream_of_kind, memory_of_object, process_if, process_named, process_with, pid_with, pid_of}
+use Rattle.libos_state.specs.Breaks.{break_asked, break_goes}
 use Rattle.libos_state.specs.Answered.{goes_on}
-use Rattle.libos_state.specs.Entered.{entered, entered_with, result_of, write_entered, ends_process, call_entered, on_pages, munmap_entered, mmap_entered, mprotect_entered, memory_entered, handles_of, note_ended, without_process, parent_of, known_result}
-use Rattle.libos_state.specs.Meaning.{caller_of, leads_to, settles}
-use Rattle.libos_state.specs.Fits.{FitsStage, FitsTrap, KeepsPages, comes_to, is_undecided, is_call, is_recorded, is_writable, is_ended_with, writes, returns, is_exit_call}
+use Rattle.libos_state.specs.Entered.{entered, entered_with, result_of, write_entered, ends_process, call_entered, on_pages, munmap_entered, mmap_entered, mprotect_entered, brk_by, brk_entered, memory_entered, handles_of, note_ended, without_process, parent_of, known_result, has_other_thread, ends_thread, exit_entered, close_entered, dup_entered, dup3_unless, descriptor_entered}
+use Rattle.libos_state.specs.Meaning.{Meaning, caller_of, leads_to, settles}
+use Rattle.libos_state.specs.Fits.{FitsStage, FitsTrap, KeepsPages, KeepsMade, is_growth, is_shrinking, moves_break, comes_to, is_undecided, is_call, is_recorded, is_writable, is_ended_with, writes, returns, is_exit_call}
 use Rattle.libos_state.specs.Turned.{FitsTrapped, TurnsTo}
 use Rattle.libos_state.specs.Laws.{EntersTurn}
 use Rattle.libos_state.proofs.Rows.{Stands}
 use Rattle.libos_state.proofs.Going.{FitsRecords-with_service, FitsObjects-with_service}
 use Rattle.libos_state.proofs.Naming.{times_named-recorded, times_recorded-most, Trapped, trapped, caller_of-trapped}
 use Rattle.libos_state.proofs.Bases.{description_of-base, process_at-found}
+use Rattle.libos_state.proofs.Breaks.{given_stands, moved_stands}
 use Rattle.libos_state.proofs.Mapping.{munmap_asks, mprotect_asks, mmap_asks}
 use Rattle.libos_state.proofs.Serving.{numbers_fit, result_fits}
 use Rattle.libos_state.proofs.Writing.{served_write}
 use Rattle.libos_state.proofs.Ending.{closing_fits, closing_means}
+use Rattle.libos_state.proofs.EndingThread.{has_other_thread-base, thread_ends}
 use Rattle.libos_state.proofs.Closing.{process_found, pid_is, process_there, FitsObjects-without_process}
+use Rattle.libos_state.proofs.DescriptorCalls.{close_stands, dup_stands, dup3_stands}
 use Rattle.libos_state.proofs.Leaving.{base-without_process}
 use Rattle.libos_state.proofs.LeftRecords.{process_named-ended, process_with-ended, FitsRecords-without_process}
 use Rattle.libos_state.proofs.Turning.{turns}
@@ -50,6 +56,31 @@ fault_byte : (cause : ℕ) → fault_code cause < 256
 fault_byte cause =
     byte_if (cause == 2) 132 (if cause == 3 then 133 else (if cause == 0 then 135 else 139)) (omega arith)
     (byte_if (cause == 3) 133 (if cause == 0 then 135 else 139) (omega arith) (byte_if (cause == 0) 135 139 (omega arith) (omega arith)))
+
+-- A break that goes over pages goes over some.
+asked_some : (x : Option ProcessNote) (address page count : ℕ) → break_asked x address ≡ Grows page count → 1 ≤ count
+asked_some None address page count goes = absurd (cc)
+asked_some (Some n) address page count goes = some_grown (pages_for n.break_now) (pages_for address) page count (nat_lt address n.break_start) (nat_lt (pages_for n.break_now) (pages_for address))
+    (nat_lt (pages_for address) (pages_for n.break_now)) refl goes
+  where
+    some_grown : (old new page count : ℕ) (below up down : Bool) → nat_lt old new ≡ up
+        → (if below then Stays else (if up then Grows old (new - old) else (if down then Shrinks new (old - new) else Within))) ≡ Grows page count → 1 ≤ count
+    some_grown old new page count true up down is goes = absurd (cc)
+    some_grown old new page count false true down is goes = let less = ltb-true old new is in let same : new - old ≡ count = cc in omega arith
+    some_grown old new page count false false true is goes = absurd (cc)
+    some_grown old new page count false false false is goes = absurd (cc)
+
+freed_some : (x : Option ProcessNote) (address page count : ℕ) → break_asked x address ≡ Shrinks page count → 1 ≤ count
+freed_some None address page count goes = absurd (cc)
+freed_some (Some n) address page count goes = some_shrunk (pages_for n.break_now) (pages_for address) page count (nat_lt address n.break_start) (nat_lt (pages_for n.break_now) (pages_for address))
+    (nat_lt (pages_for address) (pages_for n.break_now)) refl goes
+  where
+    some_shrunk : (old new page count : ℕ) (below up down : Bool) → nat_lt new old ≡ down
+        → (if below then Stays else (if up then Grows old (new - old) else (if down then Shrinks new (old - new) else Within))) ≡ Shrinks page count → 1 ≤ count
+    some_shrunk old new page count true up down is goes = absurd (cc)
+    some_shrunk old new page count false true down is goes = absurd (cc)
+    some_shrunk old new page count false false true is goes = let less = ltb-true new old is in let same : old - new ≡ count = cc in omega arith
+    some_shrunk old new page count false false false is goes = absurd (cc)
 
 -- Where the trap's process ends, the library OS stands for the machine in which it has ended.
 abbrev pub EndsProcess : LibOs → Visible → Upcall → Type 0
@@ -190,14 +221,24 @@ module _ (os : LibOs) (v : Visible) (u : Upcall) (up : os.boot ≡ Up) (fits : F
   abbrev pages : ℕ
   pages = pages_for (register u.context 11)
 
+  -- what a stage stands for that brk comes to, and another call
+  abbrev grown_if : ℕ → ℕ → Bool → Meaning
+  grown_if page count brk = leads_to (silently (if brk then grow_break m who page count else map_from m who page count))
+
+  abbrev shrunk_if : ℕ → ℕ → Bool → Meaning
+  shrunk_if page count brk = leads_to (silently (if brk then shrink_break m who page count else free_pages m who page count))
+
+  no_brk : (n : ℕ) → (n == BRK) ≡ false → IsCall n → (number == BRK) ≡ false
+  no_brk n other is = ap (λ k. k == BRK) (eqb-true number n is.1) ∙ other
+
   munmap_stands : IsCall MUNMAP → Stands (munmap_entered os u) v (leads_to (silently (munmap m who)))
   munmap_stands is =
       let known = munmap_known u.context in
       let page = register u.context 10 / 4096 in
       pages_stand FreePages page pages (free_pages m who page pages) known known refl (call_goes MUNMAP refl is) (λ none. record {
         fits = numbers_fit os v.objects (entered_with u) FreePages (page ∷ pages ∷ []) fits.records fits.objects
-            (trap_at (Some (paged FreePages page pages)) FreePages (undecided_comes MUNMAP known is none)) refl refl refl refl (munmap_asks u.context none) tt;
-        means = refl;
+            (trap_at (Some (paged FreePages page pages)) FreePages (or_left _ (moves_break os u is_shrinking) (undecided_comes MUNMAP known is none))) refl refl refl refl (munmap_asks u.context none) tt;
+        means = ap (shrunk_if page pages) (no_brk MUNMAP refl is);
       })
 
   mprotect_stands : IsCall MPROTECT → Stands (mprotect_entered os u) v (leads_to (silently (mprotect m who)))
@@ -221,9 +262,61 @@ module _ (os : LibOs) (v : Visible) (u : Upcall) (up : os.boot ≡ Up) (fits : F
       let known = mmap_known u.context in
       pages_stand AllocatePages FIRST_MAPPED pages (map_from m who FIRST_MAPPED pages) known known refl (call_goes MMAP refl is) (λ none. record {
         fits = numbers_fit os v.objects (entered_with u) AllocatePages (FIRST_MAPPED ∷ pages ∷ []) fits.records fits.objects
-            (trap_at (Some (paged AllocatePages FIRST_MAPPED pages)) AllocatePages (undecided_comes MMAP known is none)) refl refl refl refl (mmap_kept none) tt;
-        means = refl;
+            (trap_at (Some (paged AllocatePages FIRST_MAPPED pages)) AllocatePages (or_left _ (moves_break os u is_growth) (undecided_comes MMAP known is none))) refl refl refl refl
+            (subst (KeepsMade (paged AllocatePages FIRST_MAPPED pages)) (sym (no_brk MMAP refl is)) (mmap_kept none)) tt;
+        means = ap (grown_if FIRST_MAPPED pages) (no_brk MMAP refl is);
       })
+
+  -- brk, by where the break goes
+  settled : returns os u ≡ true → FitsTrap os v.objects u SetContext
+  settled goes = record { up = up; first = fits.first; current = fits.current; home = fits.home; comes = goes }
+
+  moving_comes : (so : BreakMove → Bool) → IsCall BRK → so (break_goes os u) ≡ true → moves_break os u so ≡ true
+  moving_comes so is moves =
+      and_from (is_call u BRK) (so (break_goes os u) && is_recorded os u) (and_from (u.cause == 8) (number == BRK) is.0 is.1)
+      (and_from (so (break_goes os u)) (is_recorded os u) moves fits.recorded)
+
+  goes_stand : (x : BreakMove) → IsCall BRK → break_goes os u ≡ x → Stands (brk_by os u x) v (leads_to (silently (calls.brk_by m who x)))
+  goes_stand (Grows page count) is goes = record {
+    fits = numbers_fit os v.objects (entered_with u) AllocatePages (page ∷ count ∷ []) fits.records fits.objects
+        (trap_at (Some (paged AllocatePages page count)) AllocatePages (or_right (is_undecided os u MMAP (mmap_known u.context)) _ (moving_comes is_growth is (ap is_growth goes)))) refl refl refl refl
+        (subst (KeepsMade (paged AllocatePages page count)) (sym is.1) (asked_some (process_with u.process os.processes) (register u.context 10) page count goes)) tt;
+    means = ap (grown_if page count) is.1;
+  }
+  goes_stand (Shrinks page count) is goes = record {
+    fits = numbers_fit os v.objects (entered_with u) FreePages (page ∷ count ∷ []) fits.records fits.objects
+        (trap_at (Some (paged FreePages page count)) FreePages (or_right (is_undecided os u MUNMAP (munmap_known u.context)) _ (moving_comes is_shrinking is (ap is_shrinking goes)))) refl refl refl refl
+        (freed_some (process_with u.process os.processes) (register u.context 10) page count goes) tt;
+    means = ap (shrunk_if page count) is.1;
+  }
+  goes_stand Within is goes = moved_stands os v (entered_with u) fits.records fits.objects (settled (call_goes BRK refl is))
+  goes_stand Stays is goes = given_stands os v (entered_with u) fits.records fits.objects (settled (call_goes BRK refl is))
+
+  asked_is : calls.break_asked (process_at m who.process) (register u.context 10) ≡ break_goes os u
+  asked_is =
+      let behind = ap (λ h. process_with h os.processes) home.process ∙ home.links.behind in
+      ap (λ p. calls.break_asked (process_at m p) (register u.context 10)) (ap pid_of behind)
+      ∙ ap (λ x. calls.break_asked x (register u.context 10)) (process_at-found os v u.process home.links.process fits.records behind)
+      ∙ asked_seen home.links.process.code
+      ∙ sym (ap (λ x. break_asked x (register u.context 10)) behind)
+    where
+      asked_seen : (code : Option ℕ) → calls.break_asked (Some (process_if home.links.process (memory_of_object (object_at v.objects home.links.process.handle)) code)) (register u.context 10)
+          ≡ break_asked (Some home.links.process) (register u.context 10)
+      asked_seen None = refl
+      asked_seen (Some code) = refl
+
+  brk_stands : IsCall BRK → Stands (brk_entered os u) v (leads_to (silently (brk m who)))
+  brk_stands is = subst (λ x. Stands (brk_entered os u) v (leads_to (silently (calls.brk_by m who x)))) (sym asked_is) (goes_stand (break_goes os u) is refl)
+
+  abbrev other_memory : LibOs
+  other_memory =
+      if number == MUNMAP then munmap_entered os u
+      else (if number == MMAP then mmap_entered os u else (if number == MPROTECT then mprotect_entered os u else result_of os u (known_result os u number)))
+
+  abbrev other_paging : Mono
+  other_paging =
+      if number == MUNMAP then munmap m who
+      else (if number == MMAP then mmap m who else (if number == MPROTECT then mprotect m who else finished m who (calls.known_result m who number)))
 
   memory_stands : (u.cause == 8) ≡ true → is_exit number ≡ false → (unmaps maps protects : Bool) → (number == MUNMAP) ≡ unmaps → (number == MMAP) ≡ maps → (number == MPROTECT) ≡ protects →
       Stands (cond unmaps (munmap_entered os u) (cond maps (mmap_entered os u) (cond protects (mprotect_entered os u) (result_of os u (known_result os u number))))) v
@@ -235,18 +328,53 @@ module _ (os : LibOs) (v : Visible) (u : Upcall) (up : os.boot ≡ Up) (fits : F
       subst (λ result. Stands (result_of os u (known_result os u number)) v (leads_to (silently (finished m who result)))) known_is
       (result_stands (known_result os u number) (call_returns call other))
 
-  other_stands : (u.cause == 8) ≡ true → (exits : Bool) → is_exit number ≡ exits →
-      Stands (cond exits (ends_process os u (register u.context 10 % 256)) (memory_entered os u number)) v
-      (leads_to (cond exits (silently (exit m who)) (silently (memory_call m who number))))
-  other_stands call true is = ends (register u.context 10 % 256) (omega arith)
+  pages_stands : (u.cause == 8) ≡ true → is_exit number ≡ false → (breaks : Bool) → (number == BRK) ≡ breaks →
+      Stands (cond breaks (brk_entered os u) other_memory) v (leads_to (silently (cond breaks (brk m who) other_paging)))
+  pages_stands call other true is = brk_stands (call, is)
+  pages_stands call other false _ = memory_stands call other (number == MUNMAP) (number == MMAP) (number == MPROTECT) refl refl refl
+
+  -- a call on descriptors
+  abbrev opened : Option Description
+  opened = description_behind os u.process fd
+
+  descriptor_stands : (u.cause == 8) ≡ true → is_exit number ≡ false → (closes dups replaces : Bool) → (number == CLOSE) ≡ closes → (number == DUP) ≡ dups → (number == DUP3) ≡ replaces →
+      Stands (cond closes (close_entered os u opened) (cond dups (dup_entered os u opened) (cond replaces (dup3_unless os u (dup3_known u.context)) (memory_entered os u number)))) v
+      (leads_to (silently (cond closes (close m who) (cond dups (dup m who) (cond replaces (dup3 m who) (memory_call m who number))))))
+  descriptor_stands call other true dups replaces is d r =
+      close_stands os v u up fits (and_from _ _ (or_left _ _ (and_from _ _ call is)) fits.recorded)
+      (ap (λ k. (u.cause == 8) && k == DUP3) (eqb-true number CLOSE is) ∙ ap (λ b. b && false) call)
+  descriptor_stands call other false true replaces c is r = dup_stands os v u up fits (call_returns call other)
+  descriptor_stands call other false false true c d is =
+      let it : is_call u DUP3 ≡ true = and_from _ _ call is in
+      dup3_stands os v u up fits (and_from _ _ (or_right (is_call u CLOSE) (is_call u DUP3) it) fits.recorded) it
+  descriptor_stands call other false false false c d r = pages_stands call other (number == BRK) refl
+
+  -- an exit of one of several threads ends the thread, and any other the process
+  exit_by : (u.cause == 8) ≡ true → is_exit number ≡ true → (alone : Bool) → (number == EXIT && has_other_thread os u) ≡ alone →
+      Stands (cond alone (ends_thread os u) (ends_process os u (register u.context 10 % 256))) v
+      (leads_to (silently (cond alone (calls.without_thread m who.thread) (ended m who.process (register u.context 10 % 256)))))
+  exit_by call is true alone = thread_ends os v u up fits
+      (and_from (u.cause == 8) (number == EXIT) call (and_parts (number == EXIT) (has_other_thread os u) alone).0)
+  exit_by call is false whole = ends (register u.context 10 % 256) (omega arith)
       (or_right (not (u.cause == 8)) (is_exit_call u) (and_from (u.cause == 8) (is_exit number) call is))
-  other_stands call false other = memory_stands call other (number == MUNMAP) (number == MMAP) (number == MPROTECT) refl refl refl
+
+  exit_stands : (u.cause == 8) ≡ true → is_exit number ≡ true → Stands (exit_entered os u number) v (leads_to (silently (exit m who number)))
+  exit_stands call is =
+      subst (λ other. Stands (exit_entered os u number) v
+      (leads_to (silently (cond (number == EXIT && other) (calls.without_thread m who.thread) (ended m who.process (register u.context 10 % 256))))))
+      (sym (has_other_thread-base os v u fits.records)) (exit_by call is (number == EXIT && has_other_thread os u) refl)
+
+  other_stands : (u.cause == 8) ≡ true → (exits : Bool) → is_exit number ≡ exits →
+      Stands (cond exits (exit_entered os u number) (descriptor_entered os u number)) v
+      (leads_to (cond exits (silently (exit m who number)) (silently (descriptor_call m who number))))
+  other_stands call true is = exit_stands call is
+  other_stands call false other = descriptor_stands call other (number == CLOSE) (number == DUP) (number == DUP3) refl refl refl
 
   abbrev other_entered : LibOs
-  other_entered = if is_exit number then ends_process os u (register u.context 10 % 256) else memory_entered os u number
+  other_entered = if is_exit number then exit_entered os u number else descriptor_entered os u number
 
   abbrev other_call : Served
-  other_call = if is_exit number then silently (exit m who) else silently (memory_call m who number)
+  other_call = if is_exit number then silently (exit m who number) else silently (descriptor_call m who number)
 
   call_stands : (u.cause == 8) ≡ true → (writes : Bool) → (number == WRITE) ≡ writes →
       Stands (cond writes (write_entered os u (description_behind os u.process fd)) other_entered) v (leads_to (cond writes (write m who) other_call))

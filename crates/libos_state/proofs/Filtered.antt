@@ -42,6 +42,25 @@ module _ {N : Type 0} where
         ]
       ] refl sum
 
+  filter-uncounted : (test : N → Bool) (notes : List N) → count_by test notes ≡ 0 → filter test notes ≡ []
+  filter-uncounted test [] none = refl
+  filter-uncounted test (m ∷ notes) none = elim (test m) as (λ b. count_by test (m ∷ notes) ≡ cond b 1 0 + count_by test notes → cond b (m ∷ filter test notes) (filter test notes) ≡ []) [
+    | true ↦ λ count. absurd (omega (arith, count, none))
+    | false ↦ λ count. filter-uncounted test notes (omega (arith, count, none))
+  ] (count_by-cons test m notes)
+
+  -- The only one that passes is all that passes.
+  pub filter-alone : (test : N → Bool) (notes : List N) (n : N) → find test notes ≡ Some n → count_by test notes ≤ 1 → filter test notes ≡ n ∷ []
+  filter-alone test [] n is few = absurd (cc)
+  filter-alone test (m ∷ notes) n is few = elim (test m) as (λ b. count_by test (m ∷ notes) ≡ cond b 1 0 + count_by test notes → cond b (Some m) (find test notes) ≡ Some n →
+      cond b (m ∷ filter test notes) (filter test notes) ≡ n ∷ []) [
+        | true ↦ λ count same.
+            let e : m ≡ n = cc in
+            let none = filter-uncounted test notes (omega (arith, count, few)) in
+            λ i. e i ∷ none i
+        | false ↦ λ count rest. filter-alone test notes n rest (omega (arith, count, few))
+      ] (count_by-cons test m notes) is
+
   pub list_any-weaker : (test weaker : N → Bool) → ((n : N) → test n ≡ true → weaker n ≡ true) → (notes : List N) → list_any test notes ≡ true → list_any weaker notes ≡ true
   list_any-weaker test weaker so [] some = absurd (cc)
   list_any-weaker test weaker so (m ∷ notes) some = elim (test m) as (λ b. test m ≡ b → (b || list_any test notes) ≡ true → (weaker m || list_any weaker notes) ≡ true) [

@@ -18,7 +18,7 @@ use Rattle.libos_state.specs.declared.notes.Kind.TheVariants.{ConIn, ConOut, Con
 use Rattle.libos_state.specs.declared.notes.ProcessNote.{ProcessNote}
 use Rattle.libos_state.specs.declared.notes.ThreadNote.{ThreadNote}
 use Rattle.libos_state.specs.declared.state.LibOs.{LibOs}
-use Rattle.libos_state.specs.Named.{Named, ObjectKind, AProcess, AThread, AnEvent, AConsole, AFile, ToClose, is_of, recorded, named_as, consoles, times_named}
+use Rattle.libos_state.specs.Named.{Named, ObjectKind, AProcess, AThread, AnEvent, AConsole, AFile, AStream, ToClose, is_of, recorded, named_as, consoles, times_named}
 use Rattle.libos_state.specs.Fits.{FitsObjects, FitsStart, is_to_name}
 use Rattle.libos_state.proofs.Naming.{times_named-cons, kinds-kept}
 
@@ -111,6 +111,7 @@ fails_process AThread (Process s code) other is = absurd (cc)
 fails_process AnEvent (Process s code) other is = absurd (cc)
 fails_process (AConsole kind) (Process s code) other is = absurd (cc)
 fails_process AFile (Process s code) other is = absurd (cc)
+fails_process AStream (Process s code) other is = absurd (cc)
 fails_process ToClose (Process s code) other is = absurd (cc)
 fails_process k (Thread p context) other is = refl
 fails_process k (Event set) other is = refl
@@ -124,6 +125,7 @@ fails_thread AProcess (Thread p context) other is = absurd (cc)
 fails_thread AnEvent (Thread p context) other is = absurd (cc)
 fails_thread (AConsole kind) (Thread p context) other is = absurd (cc)
 fails_thread AFile (Thread p context) other is = absurd (cc)
+fails_thread AStream (Thread p context) other is = absurd (cc)
 fails_thread ToClose (Thread p context) other is = absurd (cc)
 fails_thread k (Process s code) other is = refl
 fails_thread k (Event set) other is = refl

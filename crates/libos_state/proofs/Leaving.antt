@@ -62,7 +62,7 @@ module _ {X : Type 0} (test : ℕ × X → Bool) where
   list_any-empty = no_entries (entries empty) (sym (len-entries empty) ∙ len-empty nat_cmp X)
 
 -- An entry passes where its record does.
-list_any-mapped : {N X : Type 0} (key : N → ℕ) (value : N → X) (test : ℕ × X → Bool) (notes : List N) → are_distinct (map key notes) ≡ true
+pub list_any-mapped : {N X : Type 0} (key : N → ℕ) (value : N → X) (test : ℕ × X → Bool) (notes : List N) → are_distinct (map key notes) ≡ true
     → list_any test (entries (mapped key value notes)) ≡ list_any (λ n. test (key n, value n)) notes
 list_any-mapped key value test [] distinct = list_any-empty test
 list_any-mapped key value test (n ∷ notes) distinct =
@@ -78,7 +78,7 @@ module _ (os : LibOs) (v : Visible) (records : FitsRecords os) (p : ℕ) where
   abbrev m : Mono
   m = base os v
 
-  names_in : (id : ℕ) (memory : Space) (n : ProcessNote) (code : Option ℕ) → are_distinct (map (λ d. d.number) n.descriptors) ≡ true → (not (is_some code) || is_none n.descriptors) ≡ true
+  pub names_in : (id : ℕ) (memory : Space) (n : ProcessNote) (code : Option ℕ) → are_distinct (map (λ d. d.number) n.descriptors) ≡ true → (not (is_some code) || is_none n.descriptors) ≡ true
       → contains (values (process_if n memory code).descriptors) id ≡ list_any (λ d. d.description == id) n.descriptors
   names_in id memory n None distinct none =
       list_any-map (λ (e : ℕ × ℕ). e.1) (λ x. x == id) (λ e. e.1 == id) (λ _. refl) (entries (mapped (λ (d : DescriptorNote). d.number) (λ d. d.description) n.descriptors))
@@ -87,7 +87,7 @@ module _ (os : LibOs) (v : Visible) (records : FitsRecords os) (p : ℕ) where
       list_any-map (λ (e : ℕ × ℕ). e.1) (λ x. x == id) (λ e. e.1 == id) (λ _. refl) (entries empty) ∙ list_any-empty (λ (e : ℕ × ℕ). e.1 == id)
       ∙ sym (ap (list_any (λ d. d.description == id)) (none_are n.descriptors none))
 
-  list_any-same : {N : Type 0} (ok test other : N → Bool) → ((n : N) → ok n ≡ true → test n ≡ other n) → (notes : List N) → list_all ok notes ≡ true → list_any test notes ≡ list_any other notes
+  pub list_any-same : {N : Type 0} (ok test other : N → Bool) → ((n : N) → ok n ≡ true → test n ≡ other n) → (notes : List N) → list_all ok notes ≡ true → list_any test notes ≡ list_any other notes
   list_any-same ok test other same [] all = refl
   list_any-same ok test other same (n ∷ notes) all =
       let parts = and_parts (ok n) (list_all ok notes) all in λ i. same n parts.0 i || list_any-same ok test other same notes parts.1 i

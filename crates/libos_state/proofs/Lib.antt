@@ -3,16 +3,23 @@ pub mod Answering
 pub mod Bases
 pub mod Beginning
 pub mod Booting
+pub mod Breaking
+pub mod Breaks
 pub mod Callers
 pub mod Closing
+pub mod DescriptorBases
+pub mod DescriptorCalls
+pub mod Descriptors
 pub mod Distinct
 pub mod Ending
+pub mod EndingThread
 pub mod Entering
 mod Examples
 pub mod Filtered
 pub mod Going
 pub mod Handles
 pub mod Holds
+pub mod Keyed
 pub mod Leaving
 pub mod LeftRecords
 pub mod Loading
@@ -30,6 +37,7 @@ pub mod Serving
 pub mod Stacking
 pub mod Stages
 pub mod Starts
+pub mod StreamClosing
 pub mod Turning
 pub mod Views
 pub mod Waking

@@ -70,7 +70,7 @@ keeps_allocate_run os c w w' r fits sound abi =
     quietly_by_row os c AllocateRun w w' r Done o abi row (record {
       fits = start_goes_on os w.objects c AllocateRun refl fits o WriteRun c.bytes c.handles (k ∷ 0 ∷ []) refl
           (start_of os w.objects c AllocateRun refl fits).current
-          (FitsObjects-pages os w.objects p s new (kept_names c AllocateRun) fits.made.child fits.objects)
+          (FitsObjects-pages os w.objects p s new (kept_names os c AllocateRun) fits.made.child fits.objects)
           (λ other. absurd (true≢false other)) fits.lists.handles refl
           (record { run = record { program = fits.kept.program; among = fits.kept.among }; more = more })
           (record { memory = new; child = child; holds = pages_made s (extents_before c) run.page count 3 has });
@@ -124,9 +124,9 @@ module _ (os : LibOs) (c : Cont) (w : View) (fits : FitsStage os w.objects c Wri
   has_more : HasPages filled_more extents
   has_more = pages_filled (child_memory (visible w) c) _ extents has_pages
 
-  more_objects : FitsObjects os with_more (kept_names c WriteRun) None
+  more_objects : FitsObjects os with_more (kept_names os c WriteRun) None
   more_objects = FitsObjects-pages os w.objects (file_or_child c) fits.made.memory filled_more
-      (kept_names c WriteRun) fits.made.child fits.objects
+      (kept_names os c WriteRun) fits.made.child fits.objects
 
   more_child : object_at with_more (file_or_child c) ≡ Some (Process filled_more None)
   more_child = get-insert-same w.objects.live (file_or_child c) (Process filled_more None)
@@ -210,9 +210,9 @@ module _ (os : LibOs) (c : Cont) (w : View) (fits : FitsStage os w.objects c Pro
       pages_protected fits.made.memory (extents_before c) (run_in c).page (page_count (run_in c)) 3 (run_in c).rights fits.made.holds q
       ∙ sym ((lies_behind c fits.kept).more q)
 
-  granted_objects : FitsObjects os with_granted (kept_names c ProtectRun) None
+  granted_objects : FitsObjects os with_granted (kept_names os c ProtectRun) None
   granted_objects = FitsObjects-pages os w.objects (file_or_child c) fits.made.memory granted
-      (kept_names c ProtectRun) fits.made.child fits.objects
+      (kept_names os c ProtectRun) fits.made.child fits.objects
 
   granted_child : object_at with_granted (file_or_child c) ≡ Some (Process granted None)
   granted_child = get-insert-same w.objects.live (file_or_child c) (Process granted None)

@@ -5,7 +5,7 @@ use Rattle.std.specs.declared.option.Option.{Option}
 use Rattle.std.specs.declared.option.Option.TheVariants.{None, Some}
 use Rattle.std.proofs.Common.{refl, sym, ap, subst, ◌∙◌, arith, eqb-true, ltb-false, leb-true, leb-false, le-leb, le-ltb, ne_eqb}
 use Rattle.std.proofs.Math.Bool.{or-false}
-use Rattle.std.proofs.lemmas.Bool.{and_parts, and_from, eqb-false}
+use Rattle.std.proofs.lemmas.Bool.{and_parts, and_from, both_ways, eqb-false}
 use Rattle.rv_core.specs.declared.context.Context.{Context}
 use Rattle.guest_space.specs.Space.{Space, with_run, without_run, protected}
 use Rattle.guest_space.specs.Run.{first_held, first_missing}
@@ -18,7 +18,8 @@ use Rattle.abi_calls.specs.Memory.{with_pages, memory_allocate_row, memory_free_
 use Rattle.abi_calls.specs.Sound.{IsSound}
 use Rattle.bas_items.proofs.NumberMaps.{get-insert-other}
 use Rattle.mono_model.specs.Machine.{Mono, register, process_at, with_memory_in}
-use Rattle.mono_model.specs.Calls.{Caller, is_exit, MUNMAP, MMAP, MPROTECT, ENOMEM, EINVAL, error, silently, finished, finished_with, memory_at, munmap_known, mmap_known, mprotect_known, map_from, map_pages, free_pages, protect_pages}
+use Rattle.mono_model.specs.declared.breaks.BreakMove.{BreakMove}
+use Rattle.mono_model.specs.Calls.{Caller, is_exit, BRK, MUNMAP, MMAP, MPROTECT, ENOMEM, EINVAL, error, silently, finished, finished_with, memory_at, munmap_known, mmap_known, mprotect_known, grow_break, shrink_break, map_from, map_pages, free_pages}
 use Rattle.mono_model.specs.Mapping.{MOST_PAGES, is_page_start, pages_for, lowest_free}
 use Rattle.mono_model.specs.Starting.{STACK_PAGE}
 use Rattle.mono_model.proofs.Mapping.{lowest_free-here, lowest_free-next, lowest_free-end}
@@ -27,11 +28,14 @@ use Rattle.libos_state.specs.declared.cont.Stage.{Stage}
 use Rattle.libos_state.specs.declared.cont.Stage.TheVariants.{SetContext, AllocatePages, FreePages, ProtectPages}
 use Rattle.libos_state.specs.declared.state.LibOs.{LibOs}
 use Rattle.libos_state.specs.Records.{View, Visible, visible, with_visible, base}
-use Rattle.libos_state.specs.Pending.{asked, upcall_in, argument, number}
-use Rattle.libos_state.specs.Answered.{bare, goes_on, service_with_result, service_mapping, answered_at}
+use Rattle.libos_state.specs.declared.step.Change.TheVariants.{Same, MovesBreak}
+use Rattle.libos_state.specs.declared.step.Step.TheVariants.{GivesBreak}
+use Rattle.libos_state.specs.Breaks.{break_goes}
+use Rattle.libos_state.specs.Pending.{asked, upcall_in, argument, number, is_brk}
+use Rattle.libos_state.specs.Answered.{bare, goes_on, with_step, with_change, service_with_result, service_mapping, mapping_step, changed_step, answered_at}
 use Rattle.libos_state.specs.Meaning.{Meaning, caller_in, leads_to, meant_at}
 use Rattle.libos_state.specs.Named.{named_as, recorded, times_named}
-use Rattle.libos_state.specs.Fits.{FitsRecords, FitsObjects, FitsStage, FitsEvent, FitsTrap, KeepsPages, comes_to, is_call, is_exit_call, is_of_start, is_recorded, is_undecided, returns}
+use Rattle.libos_state.specs.Fits.{FitsRecords, FitsObjects, FitsStage, FitsEvent, FitsTrap, KeepsPages, KeepsMade, comes_to, is_call, is_exit_call, is_of_start, is_recorded, is_undecided, is_growth, is_shrinking, moves_break, returns}
 use Rattle.libos_state.proofs.Holds.{Holds}
 use Rattle.libos_state.proofs.Rows.{Stands, by_row}
 use Rattle.libos_state.proofs.Naming.{Trapped, trapped, thread_of, times_named-most}
@@ -114,7 +118,7 @@ pub record Paging (os : LibOs) (c : Cont) (w : View) (stage : Stage) (number : �
   pub call : Undecided os (upcall_in c.event) number known
   pub goes : returns os (upcall_in c.event) ≡ true
 
-paging : (os : LibOs) (c : Cont) (w : View) (stage : Stage) (number : ℕ) (known : Option ℕ) → is_of_start stage ≡ false → is_exit number ≡ false
+pub paging : (os : LibOs) (c : Cont) (w : View) (stage : Stage) (number : ℕ) (known : Option ℕ) → is_of_start stage ≡ false → is_exit number ≡ false
     → FitsRecords os → FitsObjects os w.objects (named_as c.handles []) None → FitsEvent os w.objects c.event stage
     → (comes_to os (upcall_in c.event) stage ≡ true → is_undecided os (upcall_in c.event) number known ≡ true) → Paging os c w stage number known
 paging os c w stage number known serves other records objects event comes =
@@ -170,14 +174,14 @@ module _ (os : LibOs) (c : Cont) (w : View) (stage : Stage) (number : ℕ) (know
     abbrev after : Objects
     after = with_pages w.objects u.process new
 
-    base_after : base os (with_visible v after) ≡ with_memory_in m who.process new (process_at m who.process)
+    pub base_after : base os (with_visible v after) ≡ with_memory_in m who.process new (process_at m who.process)
     base_after =
         let once : times_named u.process (recorded os) ≤ 1 = omega (arith, times_named-most os w.objects [] None at.objects u.process) in
         base-with_memory os v u.process home.links.process new at.records once (behind_process os c v at.records home) home.links.code
         ∙ sym (ap (λ p. with_memory_in m p new (process_at m p)) (caller_pid os c v at.records home))
 
-    after_trap : (result : ℕ) → FitsTrap (goes_on os (gives result)) after u SetContext
-    after_trap result = record {
+    pub after_trap : (cont : Option Cont) → FitsTrap (record os { cont = cont }) after u SetContext
+    after_trap cont = record {
       up = trap.up;
       first = trap.first;
       current = trap.current;
@@ -188,7 +192,7 @@ module _ (os : LibOs) (c : Cont) (w : View) (stage : Stage) (number : ℕ) (know
     pub changed_stands : (result : ℕ) → Stands (goes_on os (gives result)) (with_visible v after) (leads_to (silently (finished_with m who new result)))
     changed_stands result = record {
       fits = result_fits os after c result at.records (FitsObjects-pages os w.objects u.process s new [] there at.objects)
-          (on_trap os (goes_on os (gives result)) w.objects after c.event stage SetContext at.serves at.event (after_trap result));
+          (on_trap os (goes_on os (gives result)) w.objects after c.event stage SetContext at.serves at.event (after_trap (Some (gives result))));
       means = ap (λ (n : Mono). leads_to (silently (finished n who result))) base_after;
     }
 
@@ -220,26 +224,56 @@ module _ (os : LibOs) (c : Cont) (w : View) (stage : Stage) (number : ℕ) (know
       by_row os c stage w w' r Done (after new) abi row
       (subst (λ (l : LibOs). IsMeant l (after new)) (sym done) (subst (Stands (goes_on os (gives 0)) (with_visible v (after new))) means (changed_stands new 0)))
 
-some_pages : (count : ℕ) → 1 ≤ count → (count == 0) ≡ false
+pub some_pages : (count : ℕ) → 1 ≤ count → (count == 0) ≡ false
 some_pages count some = ne_eqb count 0 (λ none. absurd (omega arith))
+
+-- ---- by its number
+
+-- A stage that brk comes to, and another call, is of brk or of the other.
+pub unless_brk : (os : LibOs) (u : Upcall) (so : BreakMove → Bool) (undecided : Bool) → (register u.context 17 == BRK) ≡ false → (undecided || moves_break os u so) ≡ true → undecided ≡ true
+unless_brk os u so true other comes = refl
+unless_brk os u so false other comes =
+    let parts = and_parts (is_call u BRK) (so (break_goes os u) && is_recorded os u) comes in
+    absurd (both_ways (register u.context 17 == BRK) other ((and_parts (u.cause == 8) (register u.context 17 == BRK) parts.0).1))
+
+pub by_brk : (os : LibOs) (u : Upcall) (so : BreakMove → Bool) (n : ℕ) (known : Option ℕ) → (BRK == n) ≡ false → (register u.context 17 == BRK) ≡ true
+    → (is_undecided os u n known || moves_break os u so) ≡ true → moves_break os u so ≡ true
+by_brk os u so n known apart is comes = elim (is_undecided os u n known) as (λ b. is_undecided os u n known ≡ b → (b || moves_break os u so) ≡ true → moves_break os u so ≡ true) [
+  | true ↦ λ undecides _. absurd (both_ways (register u.context 17 == n) (ap (λ k. k == n) (eqb-true (register u.context 17) BRK is) ∙ apart)
+      ((undecided os u n known undecides).number_is))
+  | false ↦ λ _ moves. moves
+] refl comes
 
 -- ---- pages go
 
-pub keeps_free_pages : (os : LibOs) (c : Cont) (w w' : View) (r : Reply) → FitsStage os w.objects c FreePages → IsSound w.objects → AnswersAs w (asked os c FreePages) r w' → Holds os c FreePages w r w'
-keeps_free_pages os c w w' r fits sound abi =
+pub free_row : (os : LibOs) (c : Cont) (w : View) (r : Reply) (n : ℕ) (known : Option ℕ) (at : Paging os c w FreePages n known) → 1 ≤ number c 1 →
+    let s = (home os c w FreePages n known at).links.memory in
+    answer w (asked os c FreePages) r ≡ on_objects w (cond (is_some (first_missing s (number c 0) (number c 1))) (BadAddress, w.objects)
+    (Done, with_pages w.objects (upcall_in c.event).process (without_run s (number c 0) (number c 1))))
+free_row os c w r n known at some =
+    let p = (upcall_in c.event).process in
+    let s = (home os c w FreePages n known at).links.memory in
+    let missing = is_some (first_missing s (number c 0) (number c 1)) in
+    ap (λ x. on_objects w (memory_free_row w.objects p (number c 0) (number c 1) (running x))) (there os c w FreePages n known at)
+    ∙ ap (λ none. on_objects w (if none || missing then (BadAddress, w.objects) else (Done, with_pages w.objects p (without_run s (number c 0) (number c 1))))) (some_pages (number c 1) some)
+
+pub keeps_unmap_pages : (os : LibOs) (c : Cont) (w w' : View) (r : Reply) → is_brk c ≡ false → FitsStage os w.objects c FreePages → AnswersAs w (asked os c FreePages) r w' → Holds os c FreePages w r w'
+keeps_unmap_pages os c w w' r other fits abi =
     let u = upcall_in c.event in
     let known = munmap_known u.context in
-    let at = paging os c w FreePages MUNMAP known refl refl fits.records fits.objects fits.event (λ comes. comes) in
+    let at = paging os c w FreePages MUNMAP known refl refl fits.records fits.objects fits.event (unless_brk os u is_shrinking (is_undecided os u MUNMAP known) other) in
     let s = (home os c w FreePages MUNMAP known at).links.memory in
     let page = number c 0 in
     let count = number c 1 in
     let missing = is_some (first_missing s page count) in
-    let row = ap (λ x. on_objects w (memory_free_row w.objects u.process page count (running x))) (there os c w FreePages MUNMAP known at)
-    ∙ ap (λ none. on_objects w (if none || missing then (BadAddress, w.objects) else (Done, with_pages w.objects u.process (without_run s page count)))) (some_pages count fits.kept) in
     let means = sym (ap (λ (s : Space). leads_to (silently (cond (not (is_some (first_missing s page count)))
     (finished_with (base os (visible w)) (caller_in os c) (without_run s page count) 0) (finished (base os (visible w)) (caller_in os c) (error EINVAL)))))
-    (memory_is os c w FreePages MUNMAP known at)) in
-    whole_holds os c w FreePages MUNMAP known at w' r (without_run s page count) EINVAL missing abi row refl refl means
+    (memory_is os c w FreePages MUNMAP known at))
+    ∙ ap (λ brk. leads_to (silently (if brk then shrink_break (base os (visible w)) (caller_in os c) page count else free_pages (base os (visible w)) (caller_in os c) page count))) (sym other) in
+    whole_holds os c w FreePages MUNMAP known at w' r (without_run s page count) EINVAL missing abi (free_row os c w r MUNMAP known at fits.kept)
+    (ap (λ brk. with_step os (if brk then GivesBreak c else changed_step c EINVAL BadAddress)) other)
+    (ap (λ brk. with_step (with_change os (if brk then MovesBreak u.process (argument c 0) else Same)) (if brk then GivesBreak c else changed_step c EINVAL Done)) other)
+    means
 
 -- ---- pages get other rights
 
@@ -265,7 +299,7 @@ keeps_protect_pages os c w w' r fits sound abi =
 
 -- ---- pages are made
 
-module _ (os : LibOs) (c : Cont) (w w' : View) (r : Reply) (fits : FitsStage os w.objects c AllocatePages) (abi : AnswersAs w (asked os c AllocatePages) r w') where
+module _ (os : LibOs) (c : Cont) (w w' : View) (r : Reply) (other : is_brk c ≡ false) (fits : FitsStage os w.objects c AllocatePages) (abi : AnswersAs w (asked os c AllocatePages) r w') where
   abbrev trap_u : Upcall
   trap_u = upcall_in c.event
 
@@ -273,7 +307,7 @@ module _ (os : LibOs) (c : Cont) (w w' : View) (r : Reply) (fits : FitsStage os 
   decided = mmap_known trap_u.context
 
   mapping : Paging os c w AllocatePages MMAP decided
-  mapping = paging os c w AllocatePages MMAP decided refl refl fits.records fits.objects fits.event (λ comes. comes)
+  mapping = paging os c w AllocatePages MMAP decided refl refl fits.records fits.objects fits.event (unless_brk os trap_u is_growth (is_undecided os trap_u MMAP decided) other)
 
   abbrev memory : Space
   memory = (home os c w AllocatePages MMAP decided mapping).links.memory
@@ -297,11 +331,15 @@ module _ (os : LibOs) (c : Cont) (w w' : View) (r : Reply) (fits : FitsStage os 
   abbrev mapped : Option ℕ → Meaning
   mapped x = leads_to (silently (map_pages before caller count x))
 
+  -- by whether it is brk's
+  abbrev meant_if : ℕ → Bool → Meaning
+  meant_if from brk = leads_to (silently (if brk then grow_break before caller from count else map_from before caller from count))
+
   meant_from : (from : ℕ) → leads_to (silently (map_from before caller from count)) ≡ mapped (lowest_free memory from count)
   meant_from from = ap (λ (s : Space). mapped (lowest_free s from count)) (memory_is os c w AllocatePages MMAP decided mapping)
 
   kept : KeepsPages c
-  kept = fits.kept
+  kept = subst (KeepsMade c) other fits.kept
 
   abbrev made : Space → Bool → Mono
   made s full = if full then finished before caller (error ENOMEM) else finished_with before caller (with_run s page count rights) (page * 4096)
@@ -322,7 +360,8 @@ module _ (os : LibOs) (c : Cont) (w w' : View) (r : Reply) (fits : FitsStage os 
   row_mapped held full h f =
       let run = is_run-below_stack page count (let above = kept.above in omega arith) kept.some kept.below in
       let few = le-leb rights 7 ((mmap_asks trap_u.context mapping.call.unknown).0) in
-      ap (λ x. on_objects w (memory_allocate_row w.objects trap_u.process page count rights (running x))) (there os c w AllocatePages MMAP decided mapping)
+      ap (λ brk. on_objects w (memory_allocate_row w.objects trap_u.process page count (if brk then 3 else rights) (running (object_at w.objects trap_u.process)))) other
+      ∙ ap (λ x. on_objects w (memory_allocate_row w.objects trap_u.process page count rights (running x))) (there os c w AllocatePages MMAP decided mapping)
       ∙ (λ i. on_objects w (if not (run i && few i) then (BadAddress, w.objects) else row_by (h i) (f i)))
 
   -- a page of the run is there: the next run is tried, if it ends below the stack
@@ -336,8 +375,8 @@ module _ (os : LibOs) (c : Cont) (w w' : View) (r : Reply) (fits : FitsStage os 
       let comes = (trap_of os w.objects c.event AllocatePages refl fits.event).comes in
       record {
         fits = numbers_fit os w.objects c AllocatePages ((page + 1) ∷ count ∷ []) mapping.records mapping.objects
-            (event_at os c w AllocatePages MMAP decided mapping next AllocatePages comes) refl refl refl refl higher tt;
-        means = meant_from (page + 1) ∙ ap mapped (sym (lowest_free-next memory count page kept.below (ap not held)));
+            (event_at os c w AllocatePages MMAP decided mapping next AllocatePages comes) refl refl refl refl (subst (KeepsMade next) (sym other) higher) tt;
+        means = ap (meant_if (page + 1)) other ∙ meant_from (page + 1) ∙ ap mapped (sym (lowest_free-next memory count page kept.below (ap not held)));
       }
   next_stands held false past =
       let above = leb-false (page + 1 + count) STACK_PAGE past in
@@ -345,23 +384,34 @@ module _ (os : LibOs) (c : Cont) (w w' : View) (r : Reply) (fits : FitsStage os 
       (ap mapped (sym (lowest_free-next memory count page kept.below (ap not held) ∙ lowest_free-end memory count (page + 1) above)))
       (result_stands os c w AllocatePages MMAP decided mapping (error ENOMEM))
 
+  by_mapping : (reply : Reply) (o : Objects) → answer w (asked os c AllocatePages) r ≡ on_objects w (reply, o) → answered_at os c AllocatePages reply ≡ with_step os (mapping_step c reply)
+      → Stands (with_step os (mapping_step c reply)) (with_visible (visible w) o) (leads_to (silently (map_from before caller page count))) → Holds os c AllocatePages w r w'
+  by_mapping reply o row same stands =
+      by_row os c AllocatePages w w' r reply o abi row
+      (subst (λ (l : LibOs). Stands l (with_visible (visible w) o) (meant_at os (visible w) c AllocatePages)) (sym same)
+      (subst (Stands (with_step os (mapping_step c reply)) (with_visible (visible w) o)) (ap (meant_if page) (sym other)) stands))
+
+  steps : (reply : Reply) → with_step os (if is_brk c then GivesBreak c else mapping_step c reply) ≡ with_step os (mapping_step c reply)
+  steps reply = ap (λ brk. with_step os (if brk then GivesBreak c else mapping_step c reply)) other
+
   -- by the host's answer
   mapping_holds : (held full : Bool) → is_some (first_held memory page count) ≡ held → nat_lt MOST_PAGES (len memory + count) ≡ full → Holds os c AllocatePages w r w'
   mapping_holds true full h f =
-      by_row os c AllocatePages w w' r Exists w.objects abi (row_mapped true full h f)
+      by_mapping Exists w.objects (row_mapped true full h f) (steps Exists)
       (subst (Stands (goes_on os (service_mapping c (page + 1) count)) (visible w)) (sym (meant_from page)) (next_stands h (nat_le (page + 1 + count) STACK_PAGE) refl))
   mapping_holds false true h f =
       let here = ap mapped (sym (lowest_free-here memory count page kept.below (ap not h))) ∙ sym (meant_from page) in
-      by_row os c AllocatePages w w' r NoRoom w.objects abi (row_mapped false true h f)
+      by_mapping NoRoom w.objects (row_mapped false true h f) (steps NoRoom)
       (subst (Stands (goes_on os (service_with_result c (error ENOMEM))) (visible w)) (sym (mapped_here true f) ∙ here)
       (result_stands os c w AllocatePages MMAP decided mapping (error ENOMEM)))
   mapping_holds false false h f =
       let here = ap mapped (sym (lowest_free-here memory count page kept.below (ap not h))) ∙ sym (meant_from page) in
-      by_row os c AllocatePages w w' r Done objects_with abi (row_mapped false false h f)
+      by_mapping Done objects_with (row_mapped false false h f)
+      (ap (λ brk. with_step (with_change os (if brk then MovesBreak trap_u.process (argument c 0) else Same)) (if brk then GivesBreak c else mapping_step c Done)) other)
       (subst (Stands (goes_on os (service_with_result c (page * 4096))) (with_visible (visible w) objects_with)) (sym (mapped_here false f) ∙ here)
       (changed_stands os c w AllocatePages MMAP decided mapping (with_run memory page count rights) (page * 4096)))
 
-pub keeps_allocate_pages : (os : LibOs) (c : Cont) (w w' : View) (r : Reply) → FitsStage os w.objects c AllocatePages → IsSound w.objects → AnswersAs w (asked os c AllocatePages) r w' → Holds os c AllocatePages w r w'
-keeps_allocate_pages os c w w' r fits sound abi =
-    let s = memory os c w w' r fits abi in
-    mapping_holds os c w w' r fits abi (is_some (first_held s (number c 0) (number c 1))) (nat_lt MOST_PAGES (len s + number c 1)) refl refl
+pub keeps_map_pages : (os : LibOs) (c : Cont) (w w' : View) (r : Reply) → is_brk c ≡ false → FitsStage os w.objects c AllocatePages → AnswersAs w (asked os c AllocatePages) r w' → Holds os c AllocatePages w r w'
+keeps_map_pages os c w w' r other fits abi =
+    let s = memory os c w w' r other fits abi in
+    mapping_holds os c w w' r other fits abi (is_some (first_held s (number c 0) (number c 1))) (nat_lt MOST_PAGES (len s + number c 1)) refl refl

@@ -25,7 +25,7 @@ use Rattle.libos_state.specs.declared.state.LibOs.{LibOs}
 use Rattle.libos_state.specs.Records.{process_named, process_with, thread_with, thread_woken_by, description_with, tid_of, pid_of, pid_with}
 use Rattle.libos_state.specs.Meaning.{caller_of}
 use Rattle.libos_state.proofs.Distinct.{some_of}
-use Rattle.libos_state.specs.Named.{Named, ObjectKind, AProcess, AThread, AnEvent, AConsole, AFile, ToClose, is_console, is_of, recorded, named_as, times_named}
+use Rattle.libos_state.specs.Named.{Named, ObjectKind, AProcess, AThread, AnEvent, AConsole, AFile, AStream, ToClose, is_console, is_of, recorded, named_as, times_named}
 use Rattle.libos_state.specs.Fits.{FitsRecords, FitsObjects, is_alive, is_to_name, is_code, has_code, handle_in, is_home}
 
 -- ---- lists: what is found, and how often a test is passed
@@ -214,6 +214,7 @@ none_of AThread is = cc
 none_of AnEvent is = cc
 none_of (AConsole kind) is = cc
 none_of AFile is = cc
+none_of AStream is = cc
 none_of ToClose is = cc
 
 no_code : (code : Option ℕ) → is_code code None ≡ true → ⊥
@@ -396,6 +397,7 @@ Alike-thread_kind AThread p old new is = is
 Alike-thread_kind AnEvent p old new is = is
 Alike-thread_kind (AConsole kind) p old new is = absurd (cc)
 Alike-thread_kind AFile p old new is = is
+Alike-thread_kind AStream p old new is = is
 Alike-thread_kind ToClose p old new is = is
 
 Alike-thread_code : (code : Option ℕ) (p : ℕ) (old new : Context) → is_code code (Some (Thread p old)) ≡ true → is_code code (Some (Thread p new)) ≡ true
@@ -415,6 +417,7 @@ Alike-process_kind AThread old new is = is
 Alike-process_kind AnEvent old new is = is
 Alike-process_kind (AConsole kind) old new is = absurd (cc)
 Alike-process_kind AFile old new is = is
+Alike-process_kind AStream old new is = is
 Alike-process_kind ToClose old new is = is
 
 Alike-process_code : (code : Option ℕ) (old new : Space) → is_code code (Some (Process old None)) ≡ true → is_code code (Some (Process new None)) ≡ true

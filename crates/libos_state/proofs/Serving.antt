@@ -1,8 +1,8 @@
 -- The trap that a service serves.
-use Rattle.std.specs.Prelude.{◌≡◌, ℕ, ◌==◌, true, false, not, ◌&&◌, List, [], ◌∷◌, map, length}
+use Rattle.std.specs.Prelude.{◌≡◌, ℕ, ◌==◌, true, false, not, ◌&&◌, List, [], ◌∷◌, length}
 use Rattle.std.specs.declared.option.Option.{Option}
 use Rattle.std.specs.declared.option.Option.TheVariants.{None, Some}
-use Rattle.std.proofs.Common.{refl, sym, ap, subst, ◌∙◌, eq-eqb}
+use Rattle.std.proofs.Common.{refl, sym, ap, subst, ◌∙◌, arith, eq-eqb}
 use Rattle.std.proofs.lemmas.Bool.{and_parts, or_right}
 use Rattle.turn_sched.specs.Lists.{is_resting, is_at, contains}
 use Rattle.abi_calls.specs.declared.threads.Upcall.{Upcall}
@@ -11,12 +11,12 @@ use Rattle.libos_state.specs.declared.cont.Cont.{Cont}
 use Rattle.libos_state.specs.declared.cont.Event.{Event}
 use Rattle.libos_state.specs.declared.cont.Event.TheVariants as event
 use Rattle.libos_state.specs.declared.cont.Stage.{Stage}
-use Rattle.libos_state.specs.declared.cont.Stage.TheVariants.{SetContext, CloseHandles}
+use Rattle.libos_state.specs.declared.cont.Stage.TheVariants.{SetContext, CloseStream, CloseHandles}
 use Rattle.libos_state.specs.declared.state.LibOs.{LibOs}
 use Rattle.libos_state.specs.Pending.{upcall_in}
-use Rattle.libos_state.specs.Named.{ToClose, named_as, kinds_at, kept_names}
+use Rattle.libos_state.specs.Named.{Named, named_as, kept_names, ToClose, kinds_at, closed_name}
 use Rattle.libos_state.specs.Answered.{bare, goes_on, service_with_result}
-use Rattle.libos_state.specs.Fits.{FitsRecords, FitsObjects, FitsStage, FitsEvent, FitsTrap, FitsKept, FitsMade, AreNames, HasHandles, ending_at, keeps_names, numbers_at, comes_to, is_of_start, is_call, is_recorded, returns, is_exit_call}
+use Rattle.libos_state.specs.Fits.{FitsRecords, FitsObjects, FitsStage, FitsEvent, FitsTrap, FitsKept, FitsMade, AreNames, HasHandles, ending_at, keeps_names, numbers_at, comes_to, is_of_start, is_recorded, returns, is_exit_call, counted, is_call}
 use Rattle.libos_state.proofs.Going.{with_service, FitsRecords-with_service, FitsObjects-with_service}
 
 -- The event of a stage that starts nothing is a trap.
@@ -53,23 +53,24 @@ FitsTrap-with_service os cont o u stage stage' fits comes = record {
   comes = comes;
 }
 
--- A stage that keeps no handle names nothing by it.
-kept_names-none : (c : Cont) (stage : Stage) → c.handles ≡ [] → kept_names c stage ≡ []
-kept_names-none c CloseHandles none = ap (map (λ h. (h, ToClose))) none
-kept_names-none c stage none = ap (λ hs. named_as hs (kinds_at stage)) none
+-- All records count at a stage that keeps no handle.
+counted-none : (os : LibOs) (c : Cont) (stage : Stage) → HasHandles stage [] → counted os c stage ≡ os
+counted-none os c CloseStream none = absurd (omega arith)
+counted-none os c stage none = refl
 
--- A stage of a trap that keeps numbers alone.
+-- A stage of a trap that keeps numbers alone, names nothing, and at which no process ends.
 pub numbers_fit : (os : LibOs) (o : Objects) (c : Cont) (stage : Stage) (numbers : List ℕ) →
     let next = record (bare c stage) { numbers = numbers } in
-    FitsRecords os → FitsObjects os o [] None → FitsEvent (goes_on os next) o c.event stage → ending_at next stage ≡ None → keeps_names stage ≡ false →
+    FitsRecords os → FitsObjects os o [] None → FitsEvent (goes_on os next) o c.event stage → ◌≡◌ {A = List Named × Option ℕ} (kept_names (goes_on os next) next stage, ending_at next stage) ([], None) → keeps_names stage ≡ false →
     HasHandles stage [] → length numbers ≡ numbers_at stage → FitsKept (goes_on os next) next stage → FitsMade o next stage → FitsStage (goes_on os next) o next stage
 numbers_fit os o c stage numbers records objects event ends unnamed handles count kept made =
     let next = record (bare c stage) { numbers = numbers } in
-    let none = sym (kept_names-none next stage refl) in
+    let all = sym (counted-none (goes_on os next) next stage handles) in
     let fits = FitsObjects-with_service os os.boot (Some next) o [] None objects in
     record {
       records = FitsRecords-with_service os os.boot (Some next) records;
-      objects = subst (λ ending. FitsObjects (goes_on os next) o (kept_names next stage) ending) (sym ends) (subst (λ names. FitsObjects (goes_on os next) o names None) none fits);
+      objects = subst (λ counts. FitsObjects counts o (kept_names (goes_on os next) next stage) (ending_at next stage)) all
+          (subst (λ (x : List Named × Option ℕ). FitsObjects (goes_on os next) o x.0 x.1) (sym ends) fits);
       event = event;
       lists = record {
         next = λ keeps. refl;

@@ -47,7 +47,7 @@ keeps_allocate_stack os c w w' r fits sound abi =
     quietly_by_row os c AllocateStack w w' r Done o abi row (record {
       fits = start_goes_on os w.objects c AllocateStack refl fits o WriteBlock c.bytes c.handles [] refl
           (start_of os w.objects c AllocateStack refl fits).current
-          (FitsObjects-pages os w.objects p s new (kept_names c AllocateStack) fits.made.child fits.objects)
+          (FitsObjects-pages os w.objects p s new (kept_names os c AllocateStack) fits.made.child fits.objects)
           (λ other. absurd (cc)) fits.lists.handles refl fits.kept (record {
             memory = new;
             child = get-insert-same w.objects.live p (Process new None);
@@ -76,7 +76,7 @@ keeps_write_block os c w w' r fits sound abi =
     quietly_by_row os c WriteBlock w w' r Done o abi row (record {
       fits = start_goes_on os w.objects c WriteBlock refl fits o CreateThread c.bytes c.handles [] refl
           (start_of os w.objects c WriteBlock refl fits).current
-          (FitsObjects-pages os w.objects p s new (kept_names c WriteBlock) fits.made.child fits.objects)
+          (FitsObjects-pages os w.objects p s new (kept_names os c WriteBlock) fits.made.child fits.objects)
           (λ other. absurd (cc)) fits.lists.handles refl fits.kept (record {
             memory = new;
             child = get-insert-same w.objects.live p (Process new None);

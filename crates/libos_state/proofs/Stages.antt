@@ -10,7 +10,7 @@ use Rattle.abi_calls.specs.declared.reply.Reply.{Reply}
 use Rattle.abi_calls.specs.Sound.{IsSound}
 use Rattle.libos_state.specs.declared.cont.Cont.{Cont}
 use Rattle.libos_state.specs.declared.cont.Stage.{Stage}
-use Rattle.libos_state.specs.declared.cont.Stage.TheVariants.{SetContext, Resume, CloseHandles, ExitProcess, ReadBuffer, WriteStream, AllocatePages, FreePages, ProtectPages, Configure, OpenConsole, OpenProgram, ProgramLength, ReadProgram, CloseProgram, CreateProcess, AllocateRun, WriteRun, ProtectRun, AllocateStack, WriteBlock, CreateThread, CreateEvent, StartThread}
+use Rattle.libos_state.specs.declared.cont.Stage.TheVariants.{SetContext, Resume, CloseEvent, ExitThread, CloseHandles, ExitProcess, ReadBuffer, WriteStream, AllocatePages, FreePages, ProtectPages, Configure, OpenConsole, OpenProgram, ProgramLength, ReadProgram, CloseProgram, CreateProcess, AllocateRun, WriteRun, ProtectRun, AllocateStack, WriteBlock, CreateThread, CreateEvent, StartThread, CloseStream}
 use Rattle.libos_state.specs.declared.state.LibOs.{LibOs}
 use Rattle.libos_state.specs.Records.{View}
 use Rattle.libos_state.specs.Pending.{asked}
@@ -20,9 +20,12 @@ use Rattle.libos_state.specs.Laws.{KeepsMeaning}
 use Rattle.libos_state.proofs.Holds.{Holds, HoldsQuietly}
 use Rattle.libos_state.proofs.Answering.{answered_from}
 use Rattle.libos_state.proofs.Resuming.{keeps_set_context, keeps_resume}
+use Rattle.libos_state.proofs.StreamClosing.{keeps_close_stream}
 use Rattle.libos_state.proofs.Ending.{keeps_close_handles, keeps_exit_process}
+use Rattle.libos_state.proofs.EndingThread.{keeps_close_event, keeps_exit_thread}
 use Rattle.libos_state.proofs.Writing.{keeps_read_buffer, keeps_write_stream}
-use Rattle.libos_state.proofs.Mapping.{keeps_allocate_pages, keeps_free_pages, keeps_protect_pages}
+use Rattle.libos_state.proofs.Mapping.{keeps_protect_pages}
+use Rattle.libos_state.proofs.Breaking.{keeps_allocate_pages, keeps_free_pages}
 use Rattle.libos_state.proofs.Opening.{keeps_configure, keeps_open_console, keeps_open_program}
 use Rattle.libos_state.proofs.Reading.{keeps_program_length, keeps_read_program, keeps_close_program}
 use Rattle.libos_state.proofs.Making.{keeps_create_process, keeps_create_thread, keeps_create_event}
@@ -55,6 +58,9 @@ keeps_trap : (os : LibOs) (c : Cont) (stage : Stage) (w w' : View) (r : Reply)
     → AnswersAs w (asked os c stage) r w' → Holds os c stage w r w'
 keeps_trap os c SetContext w w' r other = keeps_set_context os c w w' r
 keeps_trap os c Resume w w' r other = keeps_resume os c w w' r
+keeps_trap os c CloseStream w w' r other = keeps_close_stream os c w w' r
+keeps_trap os c CloseEvent w w' r other = keeps_close_event os c w w' r
+keeps_trap os c ExitThread w w' r other = keeps_exit_thread os c w w' r
 keeps_trap os c CloseHandles w w' r other = keeps_close_handles os c w w' r
 keeps_trap os c ExitProcess w w' r other = keeps_exit_process os c w w' r
 keeps_trap os c ReadBuffer w w' r other = keeps_read_buffer os c w w' r

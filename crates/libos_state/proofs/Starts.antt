@@ -8,12 +8,12 @@ use Rattle.libos_state.specs.declared.cont.Cont.{Cont}
 use Rattle.libos_state.specs.declared.cont.Event.{Event}
 use Rattle.libos_state.specs.declared.cont.Event.TheVariants as event
 use Rattle.libos_state.specs.declared.cont.Stage.{Stage}
-use Rattle.libos_state.specs.declared.cont.Stage.TheVariants.{SetContext, Resume, CloseHandles, ExitProcess, ReadBuffer, WriteStream, AllocatePages, FreePages, ProtectPages}
+use Rattle.libos_state.specs.declared.cont.Stage.TheVariants.{SetContext, Resume, CloseEvent, ExitThread, CloseHandles, ExitProcess, ReadBuffer, WriteStream, AllocatePages, FreePages, ProtectPages, CloseStream}
 use Rattle.libos_state.specs.declared.state.Boot.{Boot}
 use Rattle.libos_state.specs.declared.state.LibOs.{LibOs}
 use Rattle.libos_state.specs.Answered.{goes_on, starting}
 use Rattle.libos_state.specs.Named.{kept_names, named_as, consoles}
-use Rattle.libos_state.specs.Fits.{FitsNone, FitsStage, FitsStart, FitsEvent, FitsObjects, FitsKept, FitsMade, FitsNames, AreNames, HasHandles, comes_to, ending_at, is_of_start, keeps_bytes, keeps_next, keeps_names, numbers_at}
+use Rattle.libos_state.specs.Fits.{FitsNone, FitsStage, FitsStart, FitsEvent, FitsObjects, FitsKept, FitsMade, FitsNames, AreNames, HasHandles, comes_to, counted, ending_at, is_of_start, keeps_bytes, keeps_next, keeps_names, numbers_at}
 use Rattle.libos_state.proofs.Going.{with_service, FitsRecords-with_service, FitsObjects-with_service}
 
 -- No trap comes to a stage of a start.
@@ -21,6 +21,9 @@ comes_to-start : (os : LibOs) (u : Upcall) (stage : Stage) → is_of_start stage
     → comes_to os u stage ≡ false
 comes_to-start os u SetContext starts = absurd (cc)
 comes_to-start os u Resume starts = absurd (cc)
+comes_to-start os u CloseStream starts = absurd (cc)
+comes_to-start os u CloseEvent starts = absurd (cc)
+comes_to-start os u ExitThread starts = absurd (cc)
 comes_to-start os u CloseHandles starts = absurd (cc)
 comes_to-start os u ExitProcess starts = absurd (cc)
 comes_to-start os u ReadBuffer starts = absurd (cc)
@@ -33,7 +36,16 @@ comes_to-start os u _ starts = refl
 keeps_next-start : (stage : Stage) → is_of_start stage ≡ true → keeps_next stage ≡ false
 keeps_next-start SetContext starts = absurd (cc)
 keeps_next-start Resume starts = absurd (cc)
+keeps_next-start CloseStream starts = absurd (cc)
 keeps_next-start _ starts = refl
+
+counted-start : (os : LibOs) (c : Cont) (stage : Stage) → is_of_start stage ≡ true → counted os c stage ≡ os
+counted-start os c CloseStream starts = absurd (cc)
+counted-start os c _ starts = refl
+
+kept_names-start : (os os' : LibOs) (c : Cont) (stage : Stage) → is_of_start stage ≡ true → kept_names os c stage ≡ kept_names os' c stage
+kept_names-start os os' c CloseStream starts = absurd (cc)
+kept_names-start os os' c _ starts = refl
 
 ending_at-start : (c : Cont) (stage : Stage) → is_of_start stage ≡ true → ending_at c stage ≡ None
 ending_at-start c CloseHandles starts = absurd (cc)
@@ -69,7 +81,7 @@ module _ (os : LibOs) (o : Objects) (c : Cont) (stage : Stage) (starts : is_of_s
   -- The start goes on at another stage, over objects that it fits.
   pub start_goes_on : (o' : Objects) (next : Stage) (bytes handles numbers : List ℕ)
       → is_of_start next ≡ true → o'.lists.current ≡ None
-      → FitsObjects os o' (kept_names (starting c next bytes handles numbers) next) None
+      → FitsObjects os o' (kept_names os (starting c next bytes handles numbers) next) None
       → (keeps_bytes next ≡ false → bytes ≡ []) → HasHandles next handles
       → length numbers ≡ numbers_at next
       → FitsKept (goes_on os (starting c next bytes handles numbers))
@@ -82,8 +94,10 @@ module _ (os : LibOs) (o : Objects) (c : Cont) (stage : Stage) (starts : is_of_s
       let os' = goes_on os c' in
       record {
         records = FitsRecords-with_service os os.boot (Some c') fits.records;
-        objects = subst (FitsObjects os' o' (kept_names c' next)) (sym (ending_at-start c' next onward))
-            (FitsObjects-with_service os os.boot (Some c') o' (kept_names c' next) None objects);
+        objects = subst (λ counts. FitsObjects counts o' (kept_names os' c' next) (ending_at c' next)) (sym (counted-start os' c' next onward))
+            (subst (FitsObjects os' o' (kept_names os' c' next)) (sym (ending_at-start c' next onward))
+            (subst (λ names. FitsObjects os' o' names None) (kept_names-start os os' c' next onward)
+            (FitsObjects-with_service os os.boot (Some c') o' (kept_names os c' next) None objects)));
         event = FitsEvent-start os os' o o' c.event stage next starts fits.event (record {
           going = start_of.going;
           next_id = start_of.next_id;

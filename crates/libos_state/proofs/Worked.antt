@@ -12,12 +12,16 @@ use Rattle.guest_space.specs.Space.{Space}
 use Rattle.turn_sched.specs.Lists.{contains}
 use Rattle.bas_names.specs.declared.StreamName.TheVariants as stream
 use Rattle.abi_calls.specs.declared.object.Object.TheVariants.{Process, Thread, Event, Stream}
+use Rattle.abi_calls.specs.declared.call.Call.TheVariants.{MemoryAllocate}
+use Rattle.abi_calls.specs.declared.reply.Reply.TheVariants.{Done, BadAddress, NoRoom}
+use Rattle.abi_calls.specs.declared.threads.Upcall.{Upcall}
 use Rattle.turn_sched.specs.declared.settings.Positions.{Positions}
 use Rattle.turn_sched.specs.declared.settings.Settings.{Settings}
 use Rattle.abi_calls.specs.Objects.{Object, Objects, object_at, is_thread_of}
 use Rattle.libos_state.specs.declared.cont.Cont.{Cont}
 use Rattle.libos_state.specs.declared.cont.Event.TheVariants as event
-use Rattle.libos_state.specs.declared.cont.Stage.TheVariants.{CloseHandles, Resume, AllocatePages, FreePages, ProtectPages}
+use Rattle.libos_state.specs.declared.cont.Stage.{Stage}
+use Rattle.libos_state.specs.declared.cont.Stage.TheVariants.{CloseHandles, Resume, AllocatePages, FreePages, ProtectPages, CloseEvent, ExitThread}
 use Rattle.libos_state.specs.declared.notes.Description.{Description}
 use Rattle.libos_state.specs.declared.notes.DescriptorNote.{DescriptorNote}
 use Rattle.libos_state.specs.declared.notes.Kind.{Kind}
@@ -30,6 +34,10 @@ use Rattle.libos_state.specs.declared.state.LibOs.{LibOs}
 use Rattle.libos_state.specs.Named.{Named, is_of, recorded, times_named}
 use Rattle.libos_state.specs.Fits.{FitsRecords, FitsObjects, FitsUp, are_distinct, is_to_name, is_code, handle_in}
 use Rattle.libos_state.specs.Records.{process_named, no_context}
+use Rattle.libos_state.specs.Breaks.{with_break}
+use Rattle.libos_state.specs.Pending.{asked}
+use Rattle.libos_state.specs.Answered.{answered_at, gives_break, goes_on, service_with_result, bare, service_leaving}
+use Rattle.libos_state.specs.Entered.{entered, result_of, entered_with, has_other_thread, ends_process}
 use Rattle.libos_state.specs.Alone.{fits_alone, fits_service}
 use Rattle.libos_state.proofs.Alone.{Decides-fits_records}
 use Rattle.libos_state.proofs.Distinct.{find-absent, contains-map}
@@ -312,6 +320,62 @@ module _ (settings : Settings) (positions : Positions) (memory : Space) (context
   other_stage : fits_service ended (closing no_context [] (19 ∷ []) (132 ∷ [])) Resume ≡ false
   other_stage = refl
 
+  -- ---- a thread that ends alone
+
+  -- The call of this number by a thread of a process, each by its handle.
+  abbrev calls : ℕ → ℕ → ℕ → Upcall
+  calls process thread number = record {
+    process = process;
+    thread = thread;
+    cause = 8;
+    value = 0;
+    context = record { pc = 0; x = replicate 16 0 ++ (number ∷ replicate 14 0) };
+  }
+
+  -- The first process has two threads, and the second has one.
+  first_has_another : has_other_thread worked (calls 11 15 93) ≡ true
+  first_has_another = refl
+
+  second_has_none : has_other_thread worked (calls 12 14 93) ≡ false
+  second_has_none = refl
+
+  -- exit of the third thread leaves the other two, and nothing of it in the queue; its event is closed. exit_group ends its process, and
+  -- so does exit of an only thread.
+  abbrev two_threads : List ThreadNote
+  two_threads = thread 1 1 13 16 ∷ thread 2 2 14 17 ∷ []
+
+  exit_of_one : entered (record worked { queue = waits 3 ∷ waits 1 ∷ [] }) (calls 11 15 93)
+      ≡ goes_on (record (with_records two_processes two_threads) { queue = waits 1 ∷ [] }) (service_leaving (entered_with (calls 11 15 93)) 18)
+  exit_of_one = refl
+
+  exit_of_all : entered worked (calls 11 15 94) ≡ ends_process worked (calls 11 15 94) 0
+  exit_of_all = refl
+
+  exit_of_the_last : entered worked (calls 12 14 93) ≡ ends_process worked (calls 12 14 93) 0
+  exit_of_the_last = refl
+
+  -- The service keeps the event alone, and then nothing. exit_group comes to neither stage.
+  abbrev leaves : ℕ → List ℕ → Cont
+  leaves number handles = record (bare (entered_with (calls 11 15 number)) CloseEvent) { handles = handles }
+
+  leaving_fits : fits_service (with_records two_processes two_threads) (leaves 93 (18 ∷ [])) CloseEvent ≡ true
+  leaving_fits = refl
+
+  no_event : fits_service (with_records two_processes two_threads) (leaves 93 []) CloseEvent ≡ false
+  no_event = refl
+
+  two_events : fits_service (with_records two_processes two_threads) (leaves 93 (18 ∷ 16 ∷ [])) CloseEvent ≡ false
+  two_events = refl
+
+  event_of_a_group : fits_service (with_records two_processes two_threads) (leaves 94 (18 ∷ [])) CloseEvent ≡ false
+  event_of_a_group = refl
+
+  exiting_fits : fits_service (with_records two_processes two_threads) (leaves 93 []) ExitThread ≡ true
+  exiting_fits = refl
+
+  event_kept_on : fits_service (with_records two_processes two_threads) (leaves 93 (18 ∷ [])) ExitThread ≡ false
+  event_kept_on = refl
+
   -- mmap of a byte by the first thread of the first process, which looks for so many pages from one on.
   abbrev mapping : ℕ → ℕ → Cont
   mapping page count =
@@ -352,3 +416,70 @@ module _ (settings : Settings) (positions : Positions) (memory : Space) (context
 
   not_protected : fits_service worked (mapping 65536 1) ProtectPages ≡ false
   not_protected = refl
+
+  -- brk by the same thread, of a process whose break stands where it started, at 0x12000, or at 0x13800 behind two pages.
+  abbrev breaks : ℕ → Upcall
+  breaks address = record {
+    process = 11;
+    thread = 13;
+    cause = 8;
+    value = 0;
+    context = record { pc = 0; x = replicate 9 0 ++ (address ∷ 0 ∷ 0 ∷ 0 ∷ 0 ∷ 0 ∷ 0 ∷ 214 ∷ replicate 14 0) };
+  }
+
+  abbrev breaking : Stage → ℕ → ℕ → ℕ → Cont
+  breaking stage address page count = record {
+    event = event.Up (breaks address);
+    stage = stage;
+    next = (breaks address).context;
+    names = [];
+    bytes = [];
+    handles = [];
+    later = [];
+    numbers = page ∷ count ∷ [];
+  }
+
+  abbrev broken : LibOs
+  broken = with_break worked 11 0x13800
+
+  -- Pages are made where it rises by some, and go where it falls by some.
+  rising_fits : fits_service worked (breaking AllocatePages 0x12001 18 1) AllocatePages ≡ true
+  rising_fits = refl
+
+  falling_fits : fits_service broken (breaking FreePages 0x12000 18 2) FreePages ≡ true
+  falling_fits = refl
+
+  rising_by_none : fits_service worked (breaking AllocatePages 0x12001 18 0) AllocatePages ≡ false
+  rising_by_none = refl
+
+  not_falling : fits_service worked (breaking FreePages 0x12001 18 1) FreePages ≡ false
+  not_falling = refl
+
+  not_rising : fits_service broken (breaking AllocatePages 0x12000 18 2) AllocatePages ≡ false
+  not_rising = refl
+
+  within_page : fits_service broken (breaking AllocatePages 0x14000 20 1) AllocatePages ≡ false
+  within_page = refl
+
+  below_start : fits_service broken (breaking FreePages 0x11000 17 3) FreePages ≡ false
+  below_start = refl
+
+  -- The pages can be read and written. The break moves once they are made, and else it stays.
+  pages_asked : asked worked (breaking AllocatePages 0x12001 18 1) AllocatePages ≡ MemoryAllocate 11 18 1 3
+  pages_asked = refl
+
+  pages_had : answered_at worked (breaking AllocatePages 0x12001 18 1) AllocatePages Done ≡ gives_break (with_break worked 11 0x12001) (breaking AllocatePages 0x12001 18 1)
+  pages_had = refl
+
+  pages_refused : answered_at worked (breaking AllocatePages 0x12001 18 1) AllocatePages NoRoom ≡ goes_on worked (service_with_result (breaking AllocatePages 0x12001 18 1) 0x12000)
+  pages_refused = refl
+
+  page_missing : answered_at broken (breaking FreePages 0x12000 18 2) FreePages BadAddress ≡ goes_on broken (service_with_result (breaking FreePages 0x12000 18 2) 0x13800)
+  page_missing = refl
+
+  -- Within its page it moves at once, and below its start it stays.
+  moved_within : entered broken (breaks 0x14000) ≡ result_of (with_break worked 11 0x14000) (breaks 0x14000) 0x14000
+  moved_within = refl
+
+  kept_below : entered broken (breaks 0x11FFF) ≡ result_of broken (breaks 0x11FFF) 0x13800
+  kept_below = refl

@@ -18,14 +18,14 @@ use Rattle.libos_state.specs.declared.cont.Cont.{Cont}
 use Rattle.libos_state.specs.declared.cont.Event.{Event}
 use Rattle.libos_state.specs.declared.cont.Event.TheVariants as event
 use Rattle.libos_state.specs.declared.cont.Stage.{Stage}
-use Rattle.libos_state.specs.declared.cont.Stage.TheVariants.{CloseHandles, ExitProcess, WriteStream, AllocatePages, FreePages, ProtectPages, Configure, OpenConsole, ReadProgram, CreateProcess, AllocateRun, WriteRun, ProtectRun, AllocateStack, WriteBlock, CreateThread, CreateEvent, StartThread}
+use Rattle.libos_state.specs.declared.cont.Stage.TheVariants.{CloseStream, CloseHandles, ExitProcess, WriteStream, AllocatePages, FreePages, ProtectPages, Configure, OpenConsole, ReadProgram, CreateProcess, AllocateRun, WriteRun, ProtectRun, AllocateStack, WriteBlock, CreateThread, CreateEvent, StartThread}
 use Rattle.libos_state.specs.declared.state.Boot.{Boot}
 use Rattle.libos_state.specs.declared.state.Boot.TheVariants as boot
 use Rattle.libos_state.specs.declared.state.LibOs.{LibOs}
 use Rattle.libos_state.specs.Records.{process_named, process_with, thread_named}
-use Rattle.libos_state.specs.Pending.{upcall_in, number, program_name, arguments, runs_in, run_in}
+use Rattle.libos_state.specs.Pending.{upcall_in, number, is_brk, program_name, arguments, runs_in, run_in}
 use Rattle.libos_state.specs.Named.{named_as, consoles, kinds_at, kept_names}
-use Rattle.libos_state.specs.Fits.{FitsRecords, FitsObjects, KeepsLists, AreNames, FitsKept, FitsMade, are_distinct, is_none, is_given, is_fit_process, is_fit_parent, is_alive, is_described, is_fit_access, is_fit_append, LAST_ID, is_of_start, comes_to, keeps_next, keeps_names, keeps_bytes, numbers_at, is_ended_with, ending_at}
+use Rattle.libos_state.specs.Fits.{FitsRecords, FitsObjects, KeepsLists, AreNames, FitsKept, FitsMade, are_distinct, is_none, is_given, is_fit_process, is_fit_parent, is_alive, is_described, is_fit_access, is_fit_append, LAST_ID, is_of_start, comes_to, keeps_next, keeps_names, keeps_bytes, numbers_at, is_ended_with, closes_new, counted, ending_at}
 
 -- ---- the library OS
 
@@ -165,6 +165,11 @@ keeps_pages c =
     && (nat_le (number c 1) MOST_PAGES
     && (nat_le FIRST_MAPPED (number c 0) && nat_le (number c 0 + number c 1) STACK_PAGE))
 
+-- The test of `KeepsMade`.
+abbrev pub keeps_made : Cont → Bool → Bool
+keeps_made c true = nat_le 1 (number c 1)
+keeps_made c false = keeps_pages c
+
 -- The tests of what is kept of a program: that the loader takes it, the number of one of its runs,
 -- and how far that run is written.
 abbrev pub keeps_program : Cont → Bool
@@ -178,12 +183,13 @@ keeps_place c = keeps_run c && nat_lt (number c 1) (length (run_in c).bytes)
 
 -- The test of `FitsKept`.
 abbrev pub fits_kept : LibOs → Cont → Stage → Bool
+fits_kept os c CloseStream = closes_new os c
 fits_kept os c CloseHandles = keeps_code os c c.numbers
 fits_kept os c ExitProcess = keeps_code os c c.numbers
 fits_kept os c WriteStream =
     is_zero_alone c.numbers
     && length c.bytes == moved (register (upcall_in c.event).context 12)
-fits_kept os c AllocatePages = keeps_pages c
+fits_kept os c AllocatePages = keeps_made c (is_brk c)
 fits_kept os c FreePages = nat_le 1 (number c 1)
 fits_kept os c ProtectPages = nat_le 1 (number c 1)
 fits_kept os c Configure = is_acceptable os.settings
@@ -231,5 +237,5 @@ FitsSettledObjects os o _ = HasConsoles os o
 abbrev pub FitsWorld : LibOs → Objects → Option Cont → Type 0
 FitsWorld os o None = FitsSettledObjects os o os.boot × (o.lists.current ≡ None)
 FitsWorld os o (Some c) =
-    FitsObjects os o (kept_names c c.stage) (ending_at c c.stage)
+    FitsObjects (counted os c c.stage) o (kept_names os c c.stage) (ending_at c c.stage)
     × IsAtEvent o c.event × FitsMade o c c.stage

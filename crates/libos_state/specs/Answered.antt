@@ -8,15 +8,15 @@ use Rattle.std.specs.declared.result.Result.{Result}
 use Rattle.std.specs.declared.result.Result.TheVariants.{Ok, Err}
 use Rattle.abi_calls.specs.declared.reply.Reply.{Reply}
 use Rattle.abi_calls.specs.declared.reply.Reply.TheVariants.{Done, Handle, Bytes, Count, Length, Exists, BadAddress, NoAccess, NoRoom}
-use Rattle.mono_model.specs.Machine.{returned}
-use Rattle.mono_model.specs.Calls.{error, ENOMEM, EFAULT, EINVAL}
+use Rattle.mono_model.specs.Machine.{register, returned}
+use Rattle.mono_model.specs.Calls.{DUP3, error, ENOMEM, EFAULT, EINVAL}
 use Rattle.mono_model.specs.Starting.{STACK_PAGE}
 use Rattle.elf_loader.specs.declared.ElfError.{ElfError}
 use Rattle.elf_loader.specs.declared.Program.{Program}
 use Rattle.elf_loader.specs.Image.{loaded}
 use Rattle.libos_state.specs.declared.cont.Cont.{Cont}
 use Rattle.libos_state.specs.declared.cont.Stage.{Stage}
-use Rattle.libos_state.specs.declared.cont.Stage.TheVariants.{SetContext, Resume, CloseHandles, ExitProcess, ReadBuffer, WriteStream, AllocatePages, FreePages, ProtectPages, Configure, OpenConsole, OpenProgram, ProgramLength, ReadProgram, CloseProgram, CreateProcess, AllocateRun, WriteRun, ProtectRun, AllocateStack, WriteBlock, CreateThread, CreateEvent, StartThread}
+use Rattle.libos_state.specs.declared.cont.Stage.TheVariants.{SetContext, Resume, CloseEvent, ExitThread, CloseHandles, ExitProcess, ReadBuffer, WriteStream, AllocatePages, FreePages, ProtectPages, Configure, OpenConsole, OpenProgram, ProgramLength, ReadProgram, CloseProgram, CreateProcess, AllocateRun, WriteRun, ProtectRun, AllocateStack, WriteBlock, CreateThread, CreateEvent, StartThread, CloseStream}
 use Rattle.libos_state.specs.declared.notes.Description.{Description}
 use Rattle.libos_state.specs.declared.notes.DescriptorNote.{DescriptorNote}
 use Rattle.libos_state.specs.declared.notes.ProcessNote.{ProcessNote}
@@ -26,10 +26,14 @@ use Rattle.libos_state.specs.declared.notes.Kind.TheVariants.{ConIn, ConOut, Con
 use Rattle.libos_state.specs.declared.state.Boot.TheVariants.{Up, NoProgram, BadProgram}
 use Rattle.libos_state.specs.declared.state.LibOs.{LibOs}
 use Rattle.libos_state.specs.declared.step.Change.{Change}
-use Rattle.libos_state.specs.declared.step.Change.TheVariants.{Same, Begins}
+use Rattle.libos_state.specs.declared.step.Change.TheVariants.{Same, MovesBreak, Begins, Closes, Replaces}
 use Rattle.libos_state.specs.declared.step.Step.{Step}
-use Rattle.libos_state.specs.declared.step.Step.TheVariants.{Asks, Ends, Stops}
-use Rattle.libos_state.specs.Pending.{upcall_in, handle, number, program_in, runs_in, run_in, run_piece, file_or_child}
+use Rattle.libos_state.specs.declared.step.Step.TheVariants.{Asks, GivesBreak, Ends, Stops}
+use Rattle.libos_state.specs.Records.{process_with, description_behind, pid_with}
+use Rattle.libos_state.specs.Breaks.{break_of, with_break}
+use Rattle.libos_state.specs.Pending.{upcall_in, handle, number, argument, is_brk, program_in, runs_in, run_in, run_piece, file_or_child}
+use Rattle.libos_state.specs.Descriptors.{with_descriptor, without_stream}
+use Rattle.libos_state.specs.Fits.{is_call}
 
 -- The service goes on with these, or has ended.
 abbrev pub goes_on : LibOs → Cont → LibOs
@@ -37,23 +41,6 @@ goes_on os c = record os { cont = Some c }
 
 abbrev pub ends : LibOs → LibOs
 ends os = record os { cont = None }
-
--- The library OS after a step of its service.
-abbrev pub with_step : LibOs → Step → LibOs
-with_step os (Asks c) = goes_on os c
-with_step os Ends = ends os
-with_step os (Stops boot) = record os { boot = boot; cont = None }
-
--- The library OS with its records changed; the next id is behind those of the run's first process
--- and its thread, which are both 1.
-abbrev pub with_change : LibOs → Change → LibOs
-with_change os Same = os
-with_change os (Begins process thread descriptions) = record os {
-  next_id = 2;
-  processes = process ∷ [];
-  threads = thread ∷ [];
-  descriptions = descriptions;
-}
 
 -- A stage that keeps nothing: its registers are those at the trap.
 abbrev pub bare : Cont → Stage → Cont
@@ -74,6 +61,43 @@ abbrev pub service_with_result : Cont → ℕ → Cont
 service_with_result c result =
     record (bare c SetContext) { next = returned (upcall_in c.event).context result }
 
+-- brk gives the break of its process, as the records have it.
+abbrev pub gives_break : LibOs → Cont → LibOs
+gives_break os c =
+    let process = process_with (upcall_in c.event).process os.processes in
+    goes_on os (service_with_result c (break_of process))
+
+-- The library OS after a step of its service.
+abbrev pub with_step : LibOs → Step → LibOs
+with_step os (Asks c) = goes_on os c
+with_step os (GivesBreak c) = gives_break os c
+with_step os Ends = ends os
+with_step os (Stops boot) = record os { boot = boot; cont = None }
+
+-- A descriptor of process p names what another one does, where that is open.
+abbrev pub duplicated : LibOs → ℕ → ℕ → Option Description → LibOs
+duplicated os p new None = os
+duplicated os p new (Some d) = with_descriptor os p new d.id
+
+abbrev pub with_duplicate : LibOs → ℕ → ℕ → ℕ → LibOs
+with_duplicate os process old new =
+    duplicated os (pid_with os process) new (description_behind os process old)
+
+-- The library OS with its records changed; the next id is behind those of the run's first process
+-- and its thread, which are both 1.
+abbrev pub with_change : LibOs → Change → LibOs
+with_change os Same = os
+with_change os (Closes handle) = without_stream os handle
+with_change os (Replaces handle process old new) =
+    with_duplicate (without_stream os handle) process old new
+with_change os (MovesBreak process address) = with_break os process address
+with_change os (Begins process thread descriptions) = record os {
+  next_id = 2;
+  processes = process ∷ [];
+  threads = thread ∷ [];
+  descriptions = descriptions;
+}
+
 -- The pages are looked for from a page on, below the stack.
 abbrev pub service_mapping : Cont → ℕ → ℕ → Cont
 service_mapping c page count =
@@ -81,11 +105,22 @@ service_mapping c page count =
     then record (bare c AllocatePages) { numbers = page ∷ count ∷ [] }
     else service_with_result c (error ENOMEM)
 
+-- The pages of mmap are made, or their run has a page that is there, or they are too many.
+abbrev pub mapping_step : Cont → Reply → Step
+mapping_step c Done = Asks (service_with_result c (number c 0 * 4096))
+mapping_step c Exists = Asks (service_mapping c (number c 0 + 1) (number c 1))
+mapping_step c NoRoom = Asks (service_with_result c (error ENOMEM))
+mapping_step c _ = Ends
+
 -- Pages that are there have changed, or one isn't there, which is this error.
 abbrev pub changed_step : Cont → ℕ → Reply → Step
 changed_step c refused Done = Asks (service_with_result c 0)
 changed_step c refused BadAddress = Asks (service_with_result c (error refused))
 changed_step c refused _ = Ends
+
+-- The event of the thread that ends is closed, and then it exits.
+abbrev pub service_leaving : Cont → ℕ → Cont
+service_leaving c event = record (bare c CloseEvent) { handles = event ∷ [] }
 
 -- The handles of the process that ends are closed one after another, and then it exits.
 abbrev pub service_closing : Cont → List ℕ → Cont
@@ -175,24 +210,42 @@ abbrev pub first_thread : Cont → ThreadNote
 first_thread c =
     record { tid = 1; pid = 1; handle = handle c 4; event = handle c 5; saved = None }
 
--- What a reply changes of the records: they begin where the first thread has become ready.
+-- A description ends whose stream is closed; where dup3 closes it, the new descriptor then names
+-- what the old one does.
+abbrev pub closing_change : Cont → Change
+closing_change c =
+    let u = upcall_in c.event in
+    if is_call u DUP3
+    then Replaces (handle c 0) u.process (register u.context 10) (register u.context 11)
+    else Closes (handle c 0)
+
+-- The pages of brk are made, or have gone: its break is where a0 asks it to be.
+abbrev pub break_change : Cont → Change
+break_change c =
+    if is_brk c then MovesBreak (upcall_in c.event).process (argument c 0) else Same
+
+-- What a reply changes of the records: what is closed goes, a break moves, and they begin where the
+-- first thread has become ready.
 abbrev pub change : Cont → Stage → Reply → Change
+change c CloseStream Done = closing_change c
+change c AllocatePages Done = break_change c
+change c FreePages Done = break_change c
 change c StartThread Done = Begins (first_process c) (first_thread c) (console_descriptions c)
 change c _ _ = Same
 
 -- What a service does on a reply.
 abbrev pub next : Cont → Stage → Reply → Step
 next c SetContext Done = Asks (record c { stage = Resume })
+next c CloseStream Done = Asks (record (bare c SetContext) { next = c.next })
+next c CloseEvent Done = Asks (bare c ExitThread)
 next c CloseHandles Done = Asks (service_closing c (drop 1 c.handles))
 next c ReadBuffer (Bytes bytes) =
     Asks (record (bare c WriteStream) { bytes = bytes; numbers = 0 ∷ [] })
 next c ReadBuffer BadAddress = Asks (service_with_result c (error EFAULT))
 next c ReadBuffer NoAccess = Asks (service_with_result c (error EFAULT))
 next c WriteStream (Count n) = Asks (service_with_result c n)
-next c AllocatePages Done = Asks (service_with_result c (number c 0 * 4096))
-next c AllocatePages Exists = Asks (service_mapping c (number c 0 + 1) (number c 1))
-next c AllocatePages NoRoom = Asks (service_with_result c (error ENOMEM))
-next c FreePages reply = changed_step c EINVAL reply
+next c AllocatePages reply = if is_brk c then GivesBreak c else mapping_step c reply
+next c FreePages reply = if is_brk c then GivesBreak c else changed_step c EINVAL reply
 next c ProtectPages reply = changed_step c ENOMEM reply
 next c Configure Done = Asks (starting c OpenConsole [] [] [])
 next c OpenConsole (Handle h) = Asks (start_opening c (c.handles ++ h ∷ []))

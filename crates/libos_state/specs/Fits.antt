@@ -14,8 +14,10 @@ use Rattle.abi_calls.specs.declared.threads.Upcall.{Upcall}
 use Rattle.abi_calls.specs.Objects.{Object, Objects, object_at, running, is_thread_of}
 use Rattle.abi_calls.specs.Processes.{is_acceptable}
 use Rattle.mono_model.specs.Machine.{register}
-use Rattle.mono_model.specs.Calls.{WRITE, MUNMAP, MMAP, MPROTECT, moved, munmap_known, mmap_known, mprotect_known, is_exit}
+use Rattle.mono_model.specs.Calls.{WRITE, BRK, MUNMAP, MMAP, MPROTECT, moved, munmap_known, mmap_known, mprotect_known, is_exit, EXIT, DUP3, CLOSE}
 use Rattle.mono_model.specs.Mapping.{MOST_PAGES, FIRST_MAPPED}
+use Rattle.mono_model.specs.declared.breaks.BreakMove.{BreakMove}
+use Rattle.mono_model.specs.declared.breaks.BreakMove.TheVariants.{Grows, Shrinks}
 use Rattle.elf_loader.specs.Image.{extent_of}
 use Rattle.elf_loader.specs.Refusal.{refusal}
 use Rattle.mono_model.specs.Starting.{STACK_PAGE, STACK_PAGES}
@@ -23,7 +25,7 @@ use Rattle.libos_state.specs.declared.cont.Cont.{Cont}
 use Rattle.libos_state.specs.declared.cont.Event.{Event}
 use Rattle.libos_state.specs.declared.cont.Event.TheVariants as event
 use Rattle.libos_state.specs.declared.cont.Stage.{Stage}
-use Rattle.libos_state.specs.declared.cont.Stage.TheVariants.{SetContext, Resume, CloseHandles, ExitProcess, ReadBuffer, WriteStream, AllocatePages, FreePages, ProtectPages, Configure, OpenConsole, OpenProgram, ProgramLength, ReadProgram, CreateProcess, AllocateRun, WriteRun, ProtectRun, AllocateStack, WriteBlock, CreateThread, CreateEvent, StartThread}
+use Rattle.libos_state.specs.declared.cont.Stage.TheVariants.{SetContext, Resume, CloseEvent, ExitThread, CloseHandles, ExitProcess, ReadBuffer, WriteStream, AllocatePages, FreePages, ProtectPages, Configure, OpenConsole, OpenProgram, ProgramLength, ReadProgram, CreateProcess, AllocateRun, WriteRun, ProtectRun, AllocateStack, WriteBlock, CreateThread, CreateEvent, StartThread, CloseStream}
 use Rattle.libos_state.specs.declared.notes.Description.{Description}
 use Rattle.libos_state.specs.declared.notes.Kind.{Kind}
 use Rattle.libos_state.specs.declared.notes.Kind.TheVariants.{ConIn, ConOut, ConErr}
@@ -33,7 +35,9 @@ use Rattle.libos_state.specs.declared.state.Boot.{Boot}
 use Rattle.libos_state.specs.declared.state.Boot.TheVariants as boot
 use Rattle.libos_state.specs.declared.state.LibOs.{LibOs}
 use Rattle.libos_state.specs.Records.{process_named, process_with, thread_named, thread_with, description_named, description_behind}
-use Rattle.libos_state.specs.Pending.{upcall_in, handle, number, program_name, arguments, file_or_child, runs_in, run_in}
+use Rattle.libos_state.specs.Breaks.{break_goes}
+use Rattle.libos_state.specs.Pending.{upcall_in, handle, number, is_brk, program_name, arguments, file_or_child, runs_in, run_in}
+use Rattle.libos_state.specs.Descriptors.{without_stream}
 use Rattle.libos_state.specs.Named.{Named, is_of, recorded, named_as, consoles, kinds_at, kept_names, times_named}
 
 -- ---- the records by themselves
@@ -151,6 +155,9 @@ pub record FitsObjects (os : LibOs) (o : Objects) (kept : List Named) (ending : 
 abbrev pub is_of_start : Stage → Bool
 is_of_start SetContext = false
 is_of_start Resume = false
+is_of_start CloseStream = false
+is_of_start CloseEvent = false
+is_of_start ExitThread = false
 is_of_start CloseHandles = false
 is_of_start ExitProcess = false
 is_of_start ReadBuffer = false
@@ -168,7 +175,7 @@ abbrev pub is_writable : Option Description → Bool
 is_writable None = false
 is_writable (Some d) = bit_and d.access 2 == 2
 
--- The trap is a call that ends the process.
+-- The trap is a call that ends its thread or the process.
 abbrev pub is_exit_call : Upcall → Bool
 is_exit_call u = u.cause == 8 && is_exit (register u.context 17)
 
@@ -189,16 +196,38 @@ returns os u = u.cause == 8 && (not (is_exit_call u) && is_recorded os u)
 abbrev pub is_undecided : LibOs → Upcall → ℕ → Option ℕ → Bool
 is_undecided os u number known = is_call u number && (not (is_some known) && is_recorded os u)
 
--- The trap comes to this stage. Its thread has a record, but where the process ends.
+-- The break goes over pages that are to be made, or over pages that are to go.
+abbrev pub is_growth : BreakMove → Bool
+is_growth (Grows page count) = true
+is_growth _ = false
+
+abbrev pub is_shrinking : BreakMove → Bool
+is_shrinking (Shrinks page count) = true
+is_shrinking _ = false
+
+-- A brk that moves the break so, of a thread that has a record.
+abbrev pub moves_break : LibOs → Upcall → (BreakMove → Bool) → Bool
+moves_break os u so = is_call u BRK && (so (break_goes os u) && is_recorded os u)
+
+-- A call that closes a descriptor, of a thread that has a record.
+abbrev pub closes_one : LibOs → Upcall → Bool
+closes_one os u = (is_call u CLOSE || is_call u DUP3) && is_recorded os u
+
+-- The trap comes to this stage. Its thread has a record, but where it ends.
 abbrev pub comes_to : LibOs → Upcall → Stage → Bool
 comes_to os u SetContext = returns os u
 comes_to os u Resume = returns os u
+comes_to os u CloseStream = closes_one os u
+comes_to os u CloseEvent = is_call u EXIT
+comes_to os u ExitThread = is_call u EXIT
 comes_to os u CloseHandles = not (u.cause == 8) || is_exit_call u
 comes_to os u ExitProcess = not (u.cause == 8) || is_exit_call u
 comes_to os u ReadBuffer = writes os u && is_recorded os u
 comes_to os u WriteStream = writes os u && is_recorded os u
-comes_to os u AllocatePages = is_undecided os u MMAP (mmap_known u.context)
-comes_to os u FreePages = is_undecided os u MUNMAP (munmap_known u.context)
+comes_to os u AllocatePages =
+    is_undecided os u MMAP (mmap_known u.context) || moves_break os u is_growth
+comes_to os u FreePages =
+    is_undecided os u MUNMAP (munmap_known u.context) || moves_break os u is_shrinking
 comes_to os u ProtectPages = is_undecided os u MPROTECT (mprotect_known u.context)
 comes_to os u _ = false
 
@@ -230,6 +259,7 @@ FitsEvent os o (event.Boot program args) stage = FitsStart os o stage
 abbrev pub keeps_next : Stage → Bool
 keeps_next SetContext = true
 keeps_next Resume = true
+keeps_next CloseStream = true
 keeps_next _ = false
 
 abbrev pub keeps_names : Stage → Bool
@@ -238,6 +268,9 @@ keeps_names stage = is_of_start stage
 abbrev pub keeps_bytes : Stage → Bool
 keeps_bytes SetContext = false
 keeps_bytes Resume = false
+keeps_bytes CloseStream = false
+keeps_bytes CloseEvent = false
+keeps_bytes ExitThread = false
 keeps_bytes CloseHandles = false
 keeps_bytes ExitProcess = false
 keeps_bytes ReadBuffer = false
@@ -309,6 +342,11 @@ pub record KeepsPages (c : Cont) : Type 0 where
   pub above : FIRST_MAPPED ≤ number c 0
   pub below : number c 0 + number c 1 ≤ STACK_PAGE
 
+-- Which pages are to be made: mmap looks for them, and brk needs some.
+abbrev pub KeepsMade : Cont → Bool → Type 0
+KeepsMade c true = 1 ≤ number c 1
+KeepsMade c false = KeepsPages c
+
 -- So many bytes of the program's file were read, of so many.
 pub record KeepsSize (c : Cont) : Type 0 where
   pub size : ℕ
@@ -329,13 +367,25 @@ pub record KeepsPlace (c : Cont) : Type 0 where
   pub run : KeepsRun c
   pub more : number c 1 < length (run_in c).bytes
 
+-- The stream that dup3 closes is that of the new descriptor.
+abbrev pub is_handle_of : Option Description → ℕ → Bool
+is_handle_of None h = false
+is_handle_of (Some d) h = d.handle == h
+
+abbrev pub closes_new : LibOs → Cont → Bool
+closes_new os c =
+    let u = upcall_in c.event in
+    not (is_call u DUP3)
+    || is_handle_of (description_behind os u.process (register u.context 11)) (handle c 0)
+
 -- What a service keeps fits its event.
 abbrev pub FitsKept : LibOs → Cont → Stage → Type 0
+FitsKept os c CloseStream = closes_new os c ≡ true
 FitsKept os c CloseHandles = KeepsCode os c
 FitsKept os c ExitProcess = KeepsCode os c
 FitsKept os c WriteStream =
     (c.numbers ≡ 0 ∷ []) × (length c.bytes ≡ moved (register (upcall_in c.event).context 12))
-FitsKept os c AllocatePages = KeepsPages c
+FitsKept os c AllocatePages = KeepsMade c (is_brk c)
 FitsKept os c FreePages = 1 ≤ number c 1
 FitsKept os c ProtectPages = 1 ≤ number c 1
 FitsKept os c Configure = is_acceptable os.settings ≡ true
@@ -409,10 +459,16 @@ ending_at c CloseHandles = Some (upcall_in c.event).process
 ending_at c ExitProcess = Some (upcall_in c.event).process
 ending_at c _ = None
 
+-- The records that count at a stage: those but for a description whose stream is closed, with its
+-- descriptors.
+abbrev pub counted : LibOs → Cont → Stage → LibOs
+counted os c CloseStream = without_stream os (handle c 0)
+counted os c _ = os
+
 -- A service is in progress, at this stage.
 pub record FitsStage (os : LibOs) (o : Objects) (c : Cont) (stage : Stage) : Type 0 where
   pub records : FitsRecords os
-  pub objects : FitsObjects os o (kept_names c stage) (ending_at c stage)
+  pub objects : FitsObjects (counted os c stage) o (kept_names os c stage) (ending_at c stage)
   pub event : FitsEvent os o c.event stage
   pub lists : KeepsLists c stage
   pub names : AreNames c (keeps_names stage)

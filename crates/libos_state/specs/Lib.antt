@@ -1,5 +1,7 @@
 pub mod Stages
 pub mod Records
+pub mod Breaks
+pub mod Descriptors
 pub mod Pending
 pub mod Answered
 pub mod Entered

@@ -1,6 +1,6 @@
 -- What the library OS and a world stand for: the monolithic machine at the end of the current turn,
 -- or what the start that is going on leads to.
-use Rattle.std.specs.Prelude.{ℕ, ◌+◌, ◌-◌, ◌*◌, List, [], ◌++◌, length, take, drop}
+use Rattle.std.specs.Prelude.{ℕ, ◌+◌, ◌-◌, ◌*◌, if◌then◌else◌, List, [], ◌++◌, length, take, drop}
 use Rattle.std.specs.declared.option.Option.{Option}
 use Rattle.std.specs.declared.option.Option.TheVariants.{None, Some}
 use Rattle.rv_core.specs.declared.context.Context.{Context}
@@ -13,17 +13,18 @@ use Rattle.abi_calls.specs.Streams.{stream_of}
 use Rattle.abi_calls.specs.declared.threads.Upcall.{Upcall}
 use Rattle.mono_model.specs.Machine.{Mono, resumed, made_ready}
 use Rattle.mono_model.specs.Written.{Written, nothing}
-use Rattle.mono_model.specs.Calls.{Caller, Trap, Served, silently, served, write_bytes, map_from, free_pages, protect_pages}
+use Rattle.mono_model.specs.Calls.{Caller, Trap, Served, silently, served, write_bytes, grow_break, shrink_break, map_from, free_pages, protect_pages}
 use Rattle.mono_model.specs.Starting.{Job, Started, Runs, NoProgram, BadProgram, blank_under, started, started_with, begun, start_context, loaded, filled_from, with_rights_of, stacked, with_block}
 use Rattle.libos_state.specs.declared.cont.Cont.{Cont}
 use Rattle.libos_state.specs.declared.cont.Stage.{Stage}
-use Rattle.libos_state.specs.declared.cont.Stage.TheVariants.{SetContext, Resume, CloseHandles, ExitProcess, ReadBuffer, WriteStream, AllocatePages, FreePages, ProtectPages, Configure, OpenConsole, OpenProgram, ProgramLength, ReadProgram, CloseProgram, CreateProcess, AllocateRun, WriteRun, ProtectRun, AllocateStack, WriteBlock, CreateThread, CreateEvent, StartThread}
+use Rattle.libos_state.specs.declared.cont.Stage.TheVariants.{SetContext, Resume, CloseEvent, ExitThread, CloseHandles, ExitProcess, ReadBuffer, WriteStream, AllocatePages, FreePages, ProtectPages, Configure, OpenConsole, OpenProgram, ProgramLength, ReadProgram, CloseProgram, CreateProcess, AllocateRun, WriteRun, ProtectRun, AllocateStack, WriteBlock, CreateThread, CreateEvent, StartThread, CloseStream}
 use Rattle.libos_state.specs.declared.notes.Description.{Description}
 use Rattle.libos_state.specs.declared.state.Boot.{Boot}
 use Rattle.libos_state.specs.declared.state.Boot.TheVariants as boot
 use Rattle.libos_state.specs.declared.state.LibOs.{LibOs}
 use Rattle.libos_state.specs.Records.{Visible, base, thread_with, stream_of_kind, description_behind, memory_of_object, context_of, tid_of, pid_with}
-use Rattle.libos_state.specs.Pending.{upcall_in, handle, number, program_name, arguments, argument, file_or_child, no_positions, program_in, runs_in, run_in}
+use Rattle.libos_state.specs.Pending.{upcall_in, handle, number, program_name, arguments, argument, is_brk, file_or_child, no_positions, program_in, runs_in, run_in}
+use Rattle.libos_state.specs.Answered.{with_change, closing_change}
 
 -- The thread and the process of a trap, by their ids.
 abbrev pub caller_of : LibOs → Upcall → Caller
@@ -103,15 +104,24 @@ abbrev pub meant_at : LibOs → Visible → Cont → Stage → Meaning
 meant_at os w c SetContext =
     settles (Runs (resumed (base os w) (caller_in os c).thread (caller_in os c).process c.next))
 meant_at os w c Resume = settles (Runs (made_ready (base os w) (caller_in os c).thread))
+meant_at os w c CloseStream =
+    let closed = base (with_change os (closing_change c)) w in
+    settles (Runs (resumed closed (caller_in os c).thread (caller_in os c).process c.next))
+meant_at os w c CloseEvent = settles (Runs (base os w))
+meant_at os w c ExitThread = settles (Runs (base os w))
 meant_at os w c CloseHandles = settles (Runs (base os w))
 meant_at os w c ExitProcess = settles (Runs (base os w))
 meant_at os w c ReadBuffer = leads_to (served (base os w) (caller_in os c) (trap_in c))
 meant_at os w c WriteStream =
     leads_to (write_bytes (base os w) (caller_in os c) (stream_in os c) c.bytes)
 meant_at os w c AllocatePages =
-    leads_to (silently (map_from (base os w) (caller_in os c) (number c 0) (number c 1)))
+    leads_to (silently (if is_brk c
+    then grow_break (base os w) (caller_in os c) (number c 0) (number c 1)
+    else map_from (base os w) (caller_in os c) (number c 0) (number c 1)))
 meant_at os w c FreePages =
-    leads_to (silently (free_pages (base os w) (caller_in os c) (number c 0) (number c 1)))
+    leads_to (silently (if is_brk c
+    then shrink_break (base os w) (caller_in os c) (number c 0) (number c 1)
+    else free_pages (base os w) (caller_in os c) (number c 0) (number c 1)))
 meant_at os w c ProtectPages =
     leads_to (silently (protect_pages (base os w) (caller_in os c) (number c 0) (number c 1)))
 meant_at os w c Configure =

@@ -1,26 +1,30 @@
 -- What the library OS names of a world: each handle with the kind of object that its place asks.
 use Rattle.std.specs.Prelude.{ℕ, ◌==◌, Bool, true, false, List, [], ◌∷◌, ◌++◌, map, count_by}
 use Rattle.std.specs.declared.option.Option.{Option}
-use Rattle.std.specs.declared.option.Option.TheVariants.{Some}
+use Rattle.std.specs.declared.option.Option.TheVariants.{None, Some}
 use Rattle.bas_names.specs.declared.StreamName.{StreamName}
 use Rattle.bas_names.specs.declared.StreamName.TheVariants as stream
-use Rattle.abi_calls.specs.declared.object.Object.TheVariants.{Process, Thread, Event, Stream}
+use Rattle.abi_calls.specs.declared.object.Object.TheVariants.{Process, Thread, Event, Stream, ReadEnd, WriteEnd}
 use Rattle.abi_calls.specs.Objects.{Object}
 use Rattle.libos_state.specs.declared.cont.Cont.{Cont}
 use Rattle.libos_state.specs.declared.cont.Stage.{Stage}
-use Rattle.libos_state.specs.declared.cont.Stage.TheVariants.{CloseHandles, OpenConsole, OpenProgram, ProgramLength, ReadProgram, CloseProgram, CreateProcess, AllocateRun, WriteRun, ProtectRun, AllocateStack, WriteBlock, CreateThread, CreateEvent, StartThread}
+use Rattle.libos_state.specs.declared.cont.Stage.TheVariants.{CloseEvent, ExitThread, CloseHandles, OpenConsole, OpenProgram, ProgramLength, ReadProgram, CloseProgram, CreateProcess, AllocateRun, WriteRun, ProtectRun, AllocateStack, WriteBlock, CreateThread, CreateEvent, StartThread, CloseStream}
 use Rattle.libos_state.specs.declared.notes.Kind.{Kind}
 use Rattle.libos_state.specs.declared.notes.Kind.TheVariants.{ConIn, ConOut, ConErr}
 use Rattle.libos_state.specs.declared.state.LibOs.{LibOs}
+use Rattle.libos_state.specs.Pending.{upcall_in}
+use Rattle.libos_state.specs.declared.notes.Description.{Description}
+use Rattle.libos_state.specs.Records.{description_with}
 
 -- The kind of object that a place asks: a process, a thread, an event, an end of the console, a
--- file, or anything that can be closed.
+-- file, any stream, or anything that can be closed.
 pub data ObjectKind : Type 0 where
   AProcess : ObjectKind
   AThread : ObjectKind
   AnEvent : ObjectKind
   AConsole : Kind → ObjectKind
   AFile : ObjectKind
+  AStream : ObjectKind
   ToClose : ObjectKind
 
 abbrev pub is_console : Kind → StreamName → Bool
@@ -36,6 +40,9 @@ is_of AThread (Some (Thread process context)) = true
 is_of AnEvent (Some (Event set)) = true
 is_of (AConsole kind) (Some (Stream name)) = is_console kind name
 is_of AFile (Some (Stream (stream.File name))) = true
+is_of AStream (Some (Stream name)) = true
+is_of AStream (Some (ReadEnd pipe)) = true
+is_of AStream (Some (WriteEnd pipe)) = true
 is_of ToClose (Some (Event set)) = true
 is_of ToClose (Some (Stream name)) = true
 is_of _ _ = false
@@ -60,9 +67,12 @@ named_as _ _ = []
 abbrev pub consoles : List ObjectKind
 consoles = AConsole ConIn ∷ AConsole ConOut ∷ AConsole ConErr ∷ []
 
--- What the handles are that a stage keeps: the ends of the console, of which not all may be open
--- yet, then the program's file or the process that is made, its thread and the thread's event.
+-- What the handles are that a stage keeps: a stream that is closed; the event of a thread that
+-- ends; at a start the ends of the console, of which not all may be open yet, then the program's
+-- file or the process that is made, its thread and the thread's event.
 abbrev pub kinds_at : Stage → List ObjectKind
+kinds_at CloseStream = AStream ∷ []
+kinds_at CloseEvent = AnEvent ∷ []
 kinds_at OpenConsole = consoles
 kinds_at OpenProgram = consoles
 kinds_at ProgramLength = consoles ++ AFile ∷ []
@@ -79,10 +89,23 @@ kinds_at CreateEvent = consoles ++ AProcess ∷ AThread ∷ []
 kinds_at StartThread = consoles ++ AProcess ∷ AThread ∷ AnEvent ∷ []
 kinds_at _ = []
 
--- What a stage keeps, and names by it; where a process ends, what is still to be closed.
-abbrev pub kept_names : Cont → Stage → List Named
-kept_names c CloseHandles = map (λ h. (h, ToClose)) c.handles
-kept_names c stage = named_as c.handles (kinds_at stage)
+-- A stream that is closed is of the kind of its description, where it still has one.
+abbrev pub kind_described : Option Description → ObjectKind
+kind_described None = AStream
+kind_described (Some d) = AConsole d.kind
+
+abbrev pub closed_name : LibOs → ℕ → Named
+closed_name os h = (h, kind_described (description_with h os.descriptions))
+
+-- What a stage keeps, and names by it; where a process ends, what is still to be closed. A thread
+-- that ends alone has no record any more, and is named besides.
+abbrev pub kept_names : LibOs → Cont → Stage → List Named
+kept_names os c CloseStream = map (closed_name os) c.handles
+kept_names os c CloseEvent =
+    ((upcall_in c.event).thread, AThread) ∷ named_as c.handles (kinds_at CloseEvent)
+kept_names os c ExitThread = ((upcall_in c.event).thread, AThread) ∷ []
+kept_names os c CloseHandles = map (λ h. (h, ToClose)) c.handles
+kept_names os c stage = named_as c.handles (kinds_at stage)
 
 -- How often a number is named.
 abbrev pub times_named : ℕ → List Named → ℕ

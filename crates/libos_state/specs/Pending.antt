@@ -1,15 +1,15 @@
 -- The call that a service makes next: one for each stage.
-use Rattle.std.specs.Prelude.{ℕ, ◌+◌, ◌-◌, ◌*◌, ◌%◌, ◌==◌, false, if◌then◌else◌, List, [], length, take, drop, min, slice_index, slice_index_or, slice_get, unwrap_or}
+use Rattle.std.specs.Prelude.{ℕ, ◌+◌, ◌-◌, ◌*◌, ◌%◌, ◌==◌, Bool, false, if◌then◌else◌, List, [], length, take, drop, min, slice_index, slice_index_or, slice_get, unwrap_or}
 use Rattle.std.specs.declared.option.Option.{Option}
 use Rattle.std.specs.declared.option.Option.TheVariants.{None, Some}
 use Rattle.abi_calls.specs.declared.call.Call.{Call}
-use Rattle.abi_calls.specs.declared.call.Call.TheVariants.{MemoryAllocate, MemoryFree, MemoryProtect, MemoryRead, MemoryWrite, ThreadCreate, ThreadResume, ThreadContext, EventCreate, StreamOpen, StreamRead, StreamWrite, StreamLength, Close, ProcessCreate, ProcessExit, Configure}
+use Rattle.abi_calls.specs.declared.call.Call.TheVariants.{MemoryAllocate, MemoryFree, MemoryProtect, MemoryRead, MemoryWrite, ThreadCreate, ThreadResume, ThreadExit, ThreadContext, EventCreate, StreamOpen, StreamRead, StreamWrite, StreamLength, Close, ProcessCreate, ProcessExit, Configure}
 use Rattle.bas_names.specs.declared.StreamName.{StreamName}
 use Rattle.bas_names.specs.declared.StreamName.TheVariants.{File, ConIn, ConOut, ConErr}
 use Rattle.turn_sched.specs.declared.settings.Positions.{Positions}
 use Rattle.abi_calls.specs.declared.threads.Upcall.{Upcall}
 use Rattle.mono_model.specs.Machine.{register}
-use Rattle.mono_model.specs.Calls.{moved}
+use Rattle.mono_model.specs.Calls.{BRK, moved}
 use Rattle.elf_loader.specs.declared.Program.{Program}
 use Rattle.elf_loader.specs.declared.Run.{Run}
 use Rattle.elf_loader.specs.Image.{page_count, program_of}
@@ -18,7 +18,7 @@ use Rattle.libos_state.specs.declared.cont.Cont.{Cont}
 use Rattle.libos_state.specs.declared.cont.Event.{Event}
 use Rattle.libos_state.specs.declared.cont.Event.TheVariants.{Boot, Up}
 use Rattle.libos_state.specs.declared.cont.Stage.{Stage}
-use Rattle.libos_state.specs.declared.cont.Stage.TheVariants.{SetContext, Resume, CloseHandles, ExitProcess, ReadBuffer, WriteStream, AllocatePages, FreePages, ProtectPages, OpenConsole, OpenProgram, ProgramLength, ReadProgram, CloseProgram, CreateProcess, AllocateRun, WriteRun, ProtectRun, AllocateStack, WriteBlock, CreateThread, CreateEvent, StartThread}
+use Rattle.libos_state.specs.declared.cont.Stage.TheVariants.{SetContext, Resume, CloseEvent, ExitThread, CloseHandles, ExitProcess, ReadBuffer, WriteStream, AllocatePages, FreePages, ProtectPages, OpenConsole, OpenProgram, ProgramLength, ReadProgram, CloseProgram, CreateProcess, AllocateRun, WriteRun, ProtectRun, AllocateStack, WriteBlock, CreateThread, CreateEvent, StartThread, CloseStream}
 use Rattle.libos_state.specs.declared.cont.Stage.TheVariants as stage
 use Rattle.libos_state.specs.declared.notes.Description.{Description}
 use Rattle.libos_state.specs.declared.state.LibOs.{LibOs}
@@ -53,6 +53,14 @@ file_or_child c = handle c 3
 -- Argument n of the system call that a service serves: its register a0 and so on.
 abbrev pub argument : Cont → ℕ → ℕ
 argument c n = register (upcall_in c.event).context (10 + n)
+
+-- The system call that a service serves is brk.
+abbrev pub is_brk : Cont → Bool
+is_brk c = argument c 7 == BRK
+
+-- The rights of the pages that are made: those of brk can be read and written.
+abbrev pub rights_made : Cont → ℕ
+rights_made c = if is_brk c then 3 else argument c 2
 
 abbrev pub handle_of : Option Description → ℕ
 handle_of None = 0
@@ -93,12 +101,15 @@ run_piece c = take PIECE (drop (number c 1) (run_in c).bytes)
 abbrev pub asked : LibOs → Cont → Stage → Call
 asked os c SetContext = ThreadContext (upcall_in c.event).thread c.next
 asked os c Resume = ThreadResume (upcall_in c.event).thread
+asked os c CloseStream = Close (handle c 0)
+asked os c CloseEvent = Close (handle c 0)
+asked os c ExitThread = ThreadExit (upcall_in c.event).thread
 asked os c CloseHandles = Close (handle c 0)
 asked os c ExitProcess = ProcessExit (upcall_in c.event).process (number c 0 % 256)
 asked os c ReadBuffer = MemoryRead (upcall_in c.event).process (argument c 1) (moved (argument c 2))
 asked os c WriteStream = StreamWrite (wanted_stream os c) (number c 0) c.bytes
 asked os c AllocatePages =
-    MemoryAllocate (upcall_in c.event).process (number c 0) (number c 1) (argument c 2)
+    MemoryAllocate (upcall_in c.event).process (number c 0) (number c 1) (rights_made c)
 asked os c FreePages = MemoryFree (upcall_in c.event).process (number c 0) (number c 1)
 asked os c ProtectPages =
     MemoryProtect (upcall_in c.event).process (number c 0) (number c 1) (argument c 2)

@@ -218,6 +218,11 @@ abbrev pub tid_of : Option ThreadNote → ℕ
 tid_of None = 0
 tid_of (Some n) = n.tid
 
+-- The handle of the event that wakes a thread.
+abbrev pub event_in : Option ThreadNote → ℕ
+event_in None = 0
+event_in (Some n) = n.event
+
 abbrev pub pid_of : Option ProcessNote → ℕ
 pid_of None = 0
 pid_of (Some n) = n.pid
@@ -225,6 +230,10 @@ pid_of (Some n) = n.pid
 -- The id of the process that has a handle.
 abbrev pub pid_with : LibOs → ℕ → ℕ
 pid_with os handle = pid_of (process_with handle os.processes)
+
+-- The id of the thread that has a handle.
+abbrev pub tid_with : LibOs → ℕ → ℕ
+tid_with os handle = tid_of (thread_with handle os.threads)
 
 -- The exit code that the record of process 1 holds.
 abbrev pub code_of : Option ProcessNote → Option ℕ

@@ -1,11 +1,14 @@
 -- The numbers that the format of images has for the stages.
 use Rattle.std.specs.Prelude.{ℕ}
 use Rattle.libos_state.specs.declared.cont.Stage.{Stage}
-use Rattle.libos_state.specs.declared.cont.Stage.TheVariants.{SetContext, Resume, CloseHandles, ExitProcess, ReadBuffer, WriteStream, AllocatePages, FreePages, ProtectPages, Configure, OpenConsole, OpenProgram, ProgramLength, ReadProgram, CloseProgram, CreateProcess, AllocateRun, WriteRun, ProtectRun, AllocateStack, WriteBlock, CreateThread, CreateEvent, StartThread}
+use Rattle.libos_state.specs.declared.cont.Stage.TheVariants.{SetContext, Resume, CloseEvent, ExitThread, CloseHandles, ExitProcess, ReadBuffer, WriteStream, AllocatePages, FreePages, ProtectPages, Configure, OpenConsole, OpenProgram, ProgramLength, ReadProgram, CloseProgram, CreateProcess, AllocateRun, WriteRun, ProtectRun, AllocateStack, WriteBlock, CreateThread, CreateEvent, StartThread, CloseStream}
 
 abbrev pub number_of : Stage → ℕ
 number_of SetContext = 1
 number_of Resume = 2
+number_of CloseStream = 5
+number_of CloseEvent = 6
+number_of ExitThread = 7
 number_of CloseHandles = 8
 number_of ExitProcess = 9
 number_of ReadBuffer = 20

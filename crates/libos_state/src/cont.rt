@@ -21,6 +21,12 @@ pub enum Stage {
     SetContext,
     /// The thread becomes ready.
     Resume,
+    /// The stream of a description that ends is closed.
+    CloseStream,
+    /// The event of the thread that ends is closed.
+    CloseEvent,
+    /// The thread ends.
+    ExitThread,
     /// A handle of the process that ends is closed.
     CloseHandles,
     /// The process ends.

@@ -4,7 +4,7 @@
 use Rattle.std.specs.Prelude.{ℕ, ◌+◌, ◌-◌, ◌*◌, ◌/◌, ◌%◌, ◌^◌, ◌==◌, Bool, false, not, ◌&&◌, ◌||◌, nat_lt, if◌then◌else◌, List, [], map, filter, length, min, bit_and}
 use Rattle.std.specs.List.{list_any}
 use Rattle.std.specs.Ordering.{nat_cmp}
-use Rattle.std.specs.FinMap.{get, insert, empty, entries, values, retain_keys, len, FinMap}
+use Rattle.std.specs.FinMap.{get, insert, remove, empty, entries, values, retain_keys, len, FinMap}
 use Rattle.std.specs.declared.option.Option.{Option}
 use Rattle.std.specs.declared.option.Option.TheVariants.{None, Some}
 use Rattle.rv_core.specs.declared.context.Context.{Context}
@@ -12,12 +12,25 @@ use Rattle.guest_space.specs.Space.{Space, memory_of, bytes_from, with_run, with
 use Rattle.guest_space.specs.Access.{AccessFault, first_fault}
 use Rattle.bas_names.specs.declared.StreamName.{StreamName}
 use Rattle.bas_names.specs.declared.StreamName.TheVariants.{File, ConIn, ConOut, ConErr}
-use Rattle.turn_sched.specs.Lists.{contains}
-use Rattle.mono_model.specs.Machine.{Mono, Process, Description, Target, Opened, Exits, Wakes, Gone, Waiter, exited, returned, register, resumed, process_at, with_memory_in, is_thread_in}
+use Rattle.turn_sched.specs.Lists.{contains, without}
+use Rattle.mono_model.specs.Machine.{Mono, Process, Description, Target, Opened, Exits, Wakes, Gone, Waiter, exited, returned, register, resumed, process_at, with_memory_in, with_break_in, is_thread_in, Thread}
+use Rattle.mono_model.specs.Descriptors.{DESCRIPTORS, named_by, descriptors_at, least_free, with_descriptor, with_closed}
 use Rattle.mono_model.specs.Mapping.{MOST_PAGES, FIRST_MAPPED, is_page_start, pages_for, is_whole, lowest_free}
+use Rattle.mono_model.specs.Breaks.{can_be_made, break_move}
+use Rattle.mono_model.specs.declared.breaks.BreakMove.{BreakMove}
+use Rattle.mono_model.specs.declared.breaks.BreakMove.TheVariants.{Grows, Shrinks, Within, Stays}
 use Rattle.mono_model.specs.Written.{Written, nothing}
 
 -- The system calls that there are so far.
+abbrev pub DUP : ℕ
+DUP = 23
+
+abbrev pub DUP3 : ℕ
+DUP3 = 24
+
+abbrev pub CLOSE : ℕ
+CLOSE = 57
+
 abbrev pub WRITE : ℕ
 WRITE = 64
 
@@ -38,6 +51,9 @@ GETPPID = 173
 
 abbrev pub GETTID : ℕ
 GETTID = 178
+
+abbrev pub BRK : ℕ
+BRK = 214
 
 abbrev pub MUNMAP : ℕ
 MUNMAP = 215
@@ -60,6 +76,9 @@ EFAULT = 14
 
 abbrev pub EINVAL : ℕ
 EINVAL = 22
+
+abbrev pub EMFILE : ℕ
+EMFILE = 24
 
 abbrev pub ENOSYS : ℕ
 ENOSYS = 38
@@ -223,6 +242,99 @@ abbrev pub mmap : Mono → Caller → Mono
 mmap m who = unless_known m who (mmap_known who.context)
     (map_from m who FIRST_MAPPED (pages_for (register who.context 11)))
 
+-- close(fd): EBADF where fd isn't open.
+abbrev pub close_open : Mono → Caller → Option ℕ → Mono
+close_open m who None = finished m who (error EBADF)
+close_open m who (Some id) = finished (with_closed m who.process (register who.context 10)) who 0
+
+abbrev pub close : Mono → Caller → Mono
+close m who = close_open m who (named_by m who.process (register who.context 10))
+
+-- dup(fd): the least free descriptor names the description too; EBADF where fd isn't open, EMFILE
+-- where no descriptor is free.
+abbrev pub dup_to : Mono → Caller → ℕ → Option ℕ → Mono
+dup_to m who id None = finished m who (error EMFILE)
+dup_to m who id (Some fd) = finished (with_descriptor m who.process fd id) who fd
+
+abbrev pub dup_open : Mono → Caller → Option ℕ → Mono
+dup_open m who None = finished m who (error EBADF)
+dup_open m who (Some id) = dup_to m who id (least_free (descriptors_at m who.process))
+
+abbrev pub dup : Mono → Caller → Mono
+dup m who = dup_open m who (named_by m who.process (register who.context 10))
+
+-- dup3(old, new, flags): EINVAL where the flags are neither 0 nor 0x80000, or old is new.
+abbrev pub dup3_known : Context → Option ℕ
+dup3_known cx =
+    if not (register cx 12 == 0 || register cx 12 == 0x80000) || register cx 10 == register cx 11
+    then Some (error EINVAL)
+    else None
+
+-- The descriptor new is closed, if it is open, and names the description of old; EBADF where old
+-- isn't open, or new is past the descriptors that there are.
+abbrev pub dup3_open : Mono → Caller → ℕ → Option ℕ → Mono
+dup3_open m who new None = finished m who (error EBADF)
+dup3_open m who new (Some id) =
+    if nat_lt new DESCRIPTORS
+    then finished (with_descriptor (with_closed m who.process new) who.process new id) who new
+    else finished m who (error EBADF)
+
+abbrev pub dup3 : Mono → Caller → Mono
+dup3 m who = unless_known m who (dup3_known who.context)
+    (dup3_open m who (register who.context 11) (named_by m who.process (register who.context 10)))
+
+-- Where the break of a process stands.
+abbrev pub break_in : Option Process → ℕ
+break_in None = 0
+break_in (Some process) = process.break_now
+
+-- The call gives the break of the caller's process, as it then stands.
+abbrev pub break_given : Mono → Caller → Mono
+break_given m who = finished m who (break_in (process_at m who.process))
+
+-- The break is where a0 asks it to be.
+abbrev pub break_moved : Mono → Caller → Mono
+break_moved m who =
+    let address = register who.context 10 in
+    break_given (with_break_in m who.process address (process_at m who.process)) who
+
+-- So it is, and the process has other pages.
+abbrev pub break_moved_with : Mono → Caller → Space → Mono
+break_moved_with m who s =
+    break_moved (with_memory_in m who.process s (process_at m who.process)) who
+
+-- The pages of the run are made, with the rights to read and to write; the break stays where they
+-- can't be had.
+abbrev pub grow_break : Mono → Caller → ℕ → ℕ → Mono
+grow_break m who page count =
+    let s = memory_at m who.process in
+    if can_be_made s page count then break_moved_with m who (with_run s page count 3)
+    else break_given m who
+
+-- The pages of the run go; the break stays where one isn't there.
+abbrev pub shrink_break : Mono → Caller → ℕ → ℕ → Mono
+shrink_break m who page count =
+    let s = memory_at m who.process in
+    if is_whole s page count then break_moved_with m who (without_run s page count)
+    else break_given m who
+
+-- Where a process's break goes that is asked to be at an address.
+abbrev pub break_asked : Option Process → ℕ → BreakMove
+break_asked None address = Stays
+break_asked (Some process) address = break_move process.break_start process.break_now address
+
+abbrev pub brk_by : Mono → Caller → BreakMove → Mono
+brk_by m who (Grows page count) = grow_break m who page count
+brk_by m who (Shrinks page count) = shrink_break m who page count
+brk_by m who Within = break_moved m who
+brk_by m who Stays = break_given m who
+
+-- brk(a): the new break, or the old one where a is below the start, or the pages can't be had or
+-- freed.
+abbrev pub brk : Mono → Caller → Mono
+brk m who =
+    brk_by m who (break_asked (process_at m who.process) (register who.context 10))
+
 -- A descriptor of a process other than p names the description.
 abbrev pub names_description : ℕ → ℕ → ℕ × Process → Bool
 names_description p id entry =
@@ -266,13 +378,45 @@ ended m p code = record m {
   queue = filter (λ q. not (is_thread_in m p q.thread)) m.queue;
 }
 
--- The calls that end the process.
+-- What waits that a thread is woken waits for what has gone.
+abbrev pub target_without : ℕ → Target → Target
+target_without t (Opened d) = Opened d
+target_without t (Exits p) = Exits p
+target_without t (Wakes u) = if u == t then Gone else Wakes u
+target_without t Gone = Gone
+
+abbrev pub waiter_without : ℕ → Waiter → Waiter
+waiter_without t w = record w { targets = map (target_without t) w.targets }
+
+-- A thread ends: it leaves the lists and the queue. Its process goes on.
+abbrev pub without_thread : Mono → ℕ → Mono
+without_thread m t = record m {
+  threads = remove m.threads t;
+  lists = record m.lists {
+    ready = without m.lists.ready t;
+    waiting = map (waiter_without t) (filter (λ w. not (w.thread == t)) m.lists.waiting);
+  };
+  queue = filter (λ q. not (q.thread == t)) m.queue;
+}
+
+-- A thread of process p other than t.
+abbrev pub is_other_thread : ℕ → ℕ → ℕ × Thread → Bool
+is_other_thread p t entry = not (entry.0 == t) && entry.1.process == p
+
+-- The caller's process has another thread.
+abbrev pub has_other_thread : Mono → Caller → Bool
+has_other_thread m who = list_any (is_other_thread who.process who.thread) (entries m.threads)
+
+-- The calls that end the caller.
 abbrev pub is_exit : ℕ → Bool
 is_exit number = number == EXIT || number == EXIT_GROUP
 
--- exit(c) and exit_group(c) end the process, with c modulo 256.
-abbrev pub exit : Mono → Caller → Mono
-exit m who = ended m who.process (register who.context 10 % 256)
+-- exit(c) ends the calling thread alone where its process has another one. Otherwise, and by
+-- exit_group(c), the process ends with c modulo 256.
+abbrev pub exit : Mono → Caller → ℕ → Mono
+exit m who number =
+    if number == EXIT && has_other_thread m who then without_thread m who.thread
+    else ended m who.process (register who.context 10 % 256)
 
 -- The parent of a process; 0 where it has none.
 abbrev pub parent_in : Option Process → ℕ
@@ -292,16 +436,25 @@ known_result m who number =
 -- The calls on a process's pages, and those whose result is known.
 abbrev pub memory_call : Mono → Caller → ℕ → Mono
 memory_call m who number =
-    if number == MUNMAP then munmap m who
+    if number == BRK then brk m who
+    else (if number == MUNMAP then munmap m who
     else (if number == MMAP then mmap m who
     else (if number == MPROTECT then mprotect m who
-    else finished m who (known_result m who number)))
+    else finished m who (known_result m who number))))
+
+-- The calls on a process's descriptors, and all that change neither files nor processes.
+abbrev pub descriptor_call : Mono → Caller → ℕ → Mono
+descriptor_call m who number =
+    if number == CLOSE then close m who
+    else (if number == DUP then dup m who
+    else (if number == DUP3 then dup3 m who
+    else memory_call m who number))
 
 abbrev pub system_call : Mono → Caller → ℕ → Served
 system_call m who number =
     if number == WRITE then write m who
-    else (if is_exit number then silently (exit m who)
-    else silently (memory_call m who number))
+    else (if is_exit number then silently (exit m who number)
+    else silently (descriptor_call m who number))
 
 -- The exit code of a process that a fault ends, by the cause: 132 an illegal instruction, 133 a
 -- breakpoint, 135 a misaligned instruction address, 139 an access.

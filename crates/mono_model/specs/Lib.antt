@@ -2,6 +2,8 @@ pub mod Readable
 pub mod Machine
 pub mod Written
 pub mod Mapping
+pub mod Breaks
+pub mod Descriptors
 pub mod Calls
 pub mod Turns
 pub mod Starting

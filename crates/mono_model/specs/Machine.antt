@@ -91,6 +91,12 @@ abbrev pub with_memory_in : Mono → ℕ → Space → Option Process → Mono
 with_memory_in m p s None = m
 with_memory_in m p s (Some process) = with_process m p (record process { memory = s })
 
+-- The process has its break at an address.
+abbrev pub with_break_in : Mono → ℕ → ℕ → Option Process → Mono
+with_break_in m p address None = m
+with_break_in m p address (Some process) =
+    with_process m p (record process { break_now = address })
+
 abbrev pub with_thread : Mono → ℕ → Thread → Mono
 with_thread m t thread = record m { threads = insert m.threads t thread }
 

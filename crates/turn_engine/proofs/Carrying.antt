@@ -1,6 +1,6 @@
 -- From one moment of a service to a later one.
 use Rattle.std.proofs.Common.{◌≡◌, ◌≢◌, ◌⊎◌, inl, inr, ℕ, List, [], ◌++◌, refl, sym, ap, subst, ◌∙◌, append_assoc}
-use Rattle.std.specs.declared.option.Option.TheVariants.{Some}
+use Rattle.std.specs.declared.option.Option.TheVariants.{Some, None}
 use Rattle.bas_edge.specs.Files.{Files}
 use Rattle.abi_calls.specs.declared.call.Call.{Call}
 use Rattle.abi_calls.specs.declared.reply.Reply.{Reply}
@@ -14,15 +14,17 @@ use Rattle.mono_model.proofs.RunLaws.{and_then-assoc}
 use Rattle.libos_state.specs.declared.state.LibOs.{LibOs}
 use Rattle.libos_state.specs.declared.state.Boot.TheVariants.{Going}
 use Rattle.libos_state.specs.declared.step.Step.{Step}
-use Rattle.libos_state.specs.declared.step.Step.TheVariants.{Asks, Ends, Stops}
+use Rattle.libos_state.specs.declared.step.Step.TheVariants.{Asks, GivesBreak, Ends, Stops}
 use Rattle.libos_state.specs.declared.step.Change.{Change}
-use Rattle.libos_state.specs.declared.step.Change.TheVariants.{Same, Begins}
+use Rattle.libos_state.specs.declared.step.Change.TheVariants.{Same, MovesBreak, Begins, Closes, Replaces}
 use Rattle.libos_state.specs.declared.cont.Cont.{Cont}
 use Rattle.std.specs.declared.option.Option.{Option}
-use Rattle.std.specs.declared.option.Option.TheVariants.{None}
-use Rattle.libos_state.specs.Records.{over_host}
+use Rattle.libos_state.specs.Records.{over_host, description_with, description_behind, pid_with}
+use Rattle.libos_state.specs.declared.notes.Description.{Description}
+use Rattle.libos_state.specs.Descriptors.{without_stream}
+use Rattle.libos_state.proofs.StreamClosing.{SameProcesses-without_description}
 use Rattle.libos_state.specs.Pending.{pending, asked_by}
-use Rattle.libos_state.specs.Answered.{answered, answered_in, with_step, with_change, change, next}
+use Rattle.libos_state.specs.Answered.{duplicated, answered, answered_in, with_step, with_change, change, next}
 use Rattle.libos_state.specs.Fits.{Fits}
 use Rattle.libos_state.specs.Laws.{IsRest, files_in, GoesOn, KeepsMeaning}
 use Rattle.turn_engine.specs.Inside.{WhereReadable}
@@ -139,12 +141,25 @@ module _ (a b : Moment) (call : Call) (r : Reply) (keeps : KeepsMeaning a.os r b
       told-same a.told b.told row.before row.was tells row.stays
 
 -- Only the end of a start changes how far it is.
+duplicated-boot : (os : LibOs) (p fd : ℕ) (x : Option Description) → (duplicated os p fd x).boot ≡ os.boot
+duplicated-boot os p fd None = refl
+duplicated-boot os p fd (Some d) = refl
+
+gone-boot : (os : LibOs) (handle : ℕ) → (without_stream os handle).boot ≡ os.boot
+gone-boot os handle = (SameProcesses-without_description os (description_with handle os.descriptions)).boot
+
 with_change-boot : (os : LibOs) (change : Change) → (with_change os change).boot ≡ os.boot
 with_change-boot os Same = refl
+with_change-boot os (Closes handle) = gone-boot os handle
+with_change-boot os (Replaces handle process old new) =
+    let left = without_stream os handle in
+    duplicated-boot left (pid_with left process) new (description_behind left process old) ∙ gone-boot os handle
+with_change-boot os (MovesBreak process address) = refl
 with_change-boot os (Begins process thread descriptions) = refl
 
 with_step-boot : (os : LibOs) (step : Step) → (with_step os step).cont ≢ None → (with_step os step).boot ≡ os.boot
 with_step-boot os (Asks c) some = refl
+with_step-boot os (GivesBreak c) some = refl
 with_step-boot os Ends some = absurd (some refl)
 with_step-boot os (Stops boot) some = absurd (some refl)
 

@@ -1,5 +1,5 @@
 -- A turn of the machine over a host.
-use Rattle.std.proofs.Common.{◌≡◌, ◌≢◌, ℕ, List, [], ◌%◌, ◌==◌, Bool, bit_and, if◌then◌else◌, true, false, append-nil, refl, sym, ap, subst, ◌∙◌}
+use Rattle.std.proofs.Common.{◌≡◌, ◌≢◌, nat_lt, ℕ, List, [], ◌%◌, ◌==◌, ◌&&◌, Bool, bit_and, if◌then◌else◌, true, false, append-nil, refl, sym, ap, subst, ◌∙◌}
 use Rattle.std.specs.FinMap.{empty}
 use Rattle.std.specs.declared.option.Option.{Option}
 use Rattle.std.specs.declared.option.Option.TheVariants.{None, Some}
@@ -16,8 +16,11 @@ use Rattle.abi_calls.proofs.Sounds.{IsSound-with_due_ready}
 use Rattle.abi_calls.proofs.TurnFacts.{world_turn-moves}
 use Rattle.mono_model.specs.Machine.{Mono, register}
 use Rattle.mono_model.specs.Readable.{Readable}
+use Rattle.mono_model.specs.Descriptors.{DESCRIPTORS}
 use Rattle.mono_model.specs.Written.{nothing, and_then}
-use Rattle.mono_model.specs.Calls.{Served, WRITE, MUNMAP, MMAP, MPROTECT, EBADF, ENOSYS, error, munmap_known, mmap_known, mprotect_known, fault_code, is_exit}
+use Rattle.mono_model.specs.declared.breaks.BreakMove.{BreakMove}
+use Rattle.mono_model.specs.declared.breaks.BreakMove.TheVariants.{Grows, Shrinks, Within, Stays}
+use Rattle.mono_model.specs.Calls.{Served, WRITE, CLOSE, DUP, DUP3, dup3_known, BRK, MUNMAP, MMAP, MPROTECT, EBADF, ENOSYS, error, munmap_known, mmap_known, mprotect_known, fault_code, is_exit, EXIT}
 use Rattle.mono_model.specs.Turns.{is_stuck, turn_of}
 use Rattle.mono_model.specs.Starting.{Runs}
 use Rattle.libos_state.specs.declared.cont.Stage.{Stage}
@@ -26,8 +29,11 @@ use Rattle.libos_state.specs.declared.state.LibOs.{LibOs}
 use Rattle.libos_state.specs.declared.notes.Description.{Description}
 use Rattle.libos_state.specs.declared.state.Boot.{Boot}
 use Rattle.libos_state.specs.declared.state.Boot.TheVariants.{Up}
-use Rattle.libos_state.specs.Records.{description_behind}
-use Rattle.libos_state.specs.Entered.{entered, call_entered, write_entered, on_pages, munmap_entered, mmap_entered, mprotect_entered, memory_entered, ends_process, result_of, known_result}
+use Rattle.libos_state.specs.Records.{description_behind, pid_with, process_with}
+use Rattle.libos_state.specs.Descriptors.{with_descriptor, without_descriptor}
+use Rattle.libos_state.specs.Answered.{goes_on}
+use Rattle.libos_state.specs.Breaks.{break_goes}
+use Rattle.libos_state.specs.Entered.{entered, call_entered, write_entered, on_pages, munmap_entered, mmap_entered, mprotect_entered, brk_by, brk_entered, memory_entered, ends_process, result_of, known_result, exit_entered, has_other_thread, ends_thread, entered_with, service_with_stream, is_last, close_entered, dup_to, dup_entered, dup3_over, dup3_open, dup3_unless, descriptor_entered, least_free, descriptors_in}
 use Rattle.libos_state.specs.Fits.{Fits, FitsUp, FitsBoot, FitsCont}
 use Rattle.libos_state.specs.Laws.{EntersTurn}
 use Rattle.libos_state.specs.Meaning.{Meaning, meant, meant_settled, leads_to}
@@ -126,11 +132,60 @@ entered-boot-pages : (os : LibOs) (u : Upcall) (known : Option ℕ) (stage : Sta
 entered-boot-pages os u None stage page count = refl
 entered-boot-pages os u (Some result) stage page count = refl
 
+entered-boot-brk : (os : LibOs) (u : Upcall) (x : BreakMove) → (brk_by os u x).boot ≡ os.boot
+entered-boot-brk os u (Grows page count) = refl
+entered-boot-brk os u (Shrinks page count) = refl
+entered-boot-brk os u Within = refl
+entered-boot-brk os u Stays = refl
+
 entered-boot-memory : (os : LibOs) (u : Upcall) (number : ℕ) → (memory_entered os u number).boot ≡ os.boot
 entered-boot-memory os u number =
-    boot_if (number == MUNMAP) (munmap_entered os u) _ os.boot (entered-boot-pages os u (munmap_known u.context) FreePages _ _)
+    boot_if (number == BRK) (brk_entered os u) _ os.boot (entered-boot-brk os u (break_goes os u))
+    (boot_if (number == MUNMAP) (munmap_entered os u) _ os.boot (entered-boot-pages os u (munmap_known u.context) FreePages _ _)
     (boot_if (number == MMAP) (mmap_entered os u) _ os.boot (entered-boot-pages os u (mmap_known u.context) AllocatePages _ _)
-    (boot_if (number == MPROTECT) (mprotect_entered os u) (result_of os u (known_result os u number)) os.boot (entered-boot-pages os u (mprotect_known u.context) ProtectPages _ _) refl))
+    (boot_if (number == MPROTECT) (mprotect_entered os u) (result_of os u (known_result os u number)) os.boot (entered-boot-pages os u (mprotect_known u.context) ProtectPages _ _) refl)))
+
+entered-boot-exit : (os : LibOs) (u : Upcall) (number : ℕ) → (exit_entered os u number).boot ≡ os.boot
+entered-boot-exit os u number =
+    boot_if (number == EXIT && has_other_thread os u) (ends_thread os u) (ends_process os u (register u.context 10 % 256)) os.boot refl refl
+
+entered-boot-close : (os : LibOs) (u : Upcall) (d : Option Description) → (close_entered os u d).boot ≡ os.boot
+entered-boot-close os u None = refl
+entered-boot-close os u (Some d) =
+    let p = pid_with os u.process in
+    let fd = register u.context 10 in
+    boot_if (is_last os p fd d.id) (goes_on os (service_with_stream (entered_with u) d.handle 0)) (result_of (without_descriptor os p fd) u 0) os.boot refl refl
+
+entered-boot-dup_to : (os : LibOs) (u : Upcall) (id : ℕ) (fd : Option ℕ) → (dup_to os u id fd).boot ≡ os.boot
+entered-boot-dup_to os u id None = refl
+entered-boot-dup_to os u id (Some fd) = refl
+
+entered-boot-dup : (os : LibOs) (u : Upcall) (d : Option Description) → (dup_entered os u d).boot ≡ os.boot
+entered-boot-dup os u None = refl
+entered-boot-dup os u (Some d) = entered-boot-dup_to os u d.id (least_free (descriptors_in (process_with u.process os.processes)))
+
+entered-boot-over : (os : LibOs) (u : Upcall) (new id : ℕ) (d : Option Description) → (dup3_over os u new id d).boot ≡ os.boot
+entered-boot-over os u new id None = refl
+entered-boot-over os u new id (Some d) =
+    let p = pid_with os u.process in
+    boot_if (is_last os p new d.id) (goes_on os (service_with_stream (entered_with u) d.handle new)) (result_of (with_descriptor os p new id) u new) os.boot refl refl
+
+entered-boot-replaces : (os : LibOs) (u : Upcall) (new : ℕ) (d : Option Description) → (dup3_open os u new d).boot ≡ os.boot
+entered-boot-replaces os u new None = refl
+entered-boot-replaces os u new (Some d) =
+    boot_if (nat_lt new DESCRIPTORS) (dup3_over os u new d.id (description_behind os u.process new)) (result_of os u (error EBADF)) os.boot
+    (entered-boot-over os u new d.id (description_behind os u.process new)) refl
+
+entered-boot-dup3 : (os : LibOs) (u : Upcall) (known : Option ℕ) → (dup3_unless os u known).boot ≡ os.boot
+entered-boot-dup3 os u (Some result) = refl
+entered-boot-dup3 os u None = entered-boot-replaces os u (register u.context 11) (description_behind os u.process (register u.context 10))
+
+entered-boot-descriptors : (os : LibOs) (u : Upcall) (number : ℕ) → (descriptor_entered os u number).boot ≡ os.boot
+entered-boot-descriptors os u number =
+    let d = description_behind os u.process (register u.context 10) in
+    boot_if (number == CLOSE) (close_entered os u d) _ os.boot (entered-boot-close os u d)
+    (boot_if (number == DUP) (dup_entered os u d) _ os.boot (entered-boot-dup os u d)
+    (boot_if (number == DUP3) (dup3_unless os u (dup3_known u.context)) (memory_entered os u number) os.boot (entered-boot-dup3 os u (dup3_known u.context)) (entered-boot-memory os u number)))
 
 -- a library OS that begins to serve a trap is as far as before
 pub entered-boot : (os : LibOs) (u : Upcall) → (entered os u).boot ≡ os.boot
@@ -138,7 +193,7 @@ entered-boot os u =
     boot_if (u.cause == 8) (call_entered os u (register u.context 17)) (ends_process os u (fault_code u.cause)) os.boot
     (boot_if (register u.context 17 == WRITE) (write_entered os u (description_behind os u.process (register u.context 10))) _ os.boot
     (entered-boot-write os u (description_behind os u.process (register u.context 10)))
-    (boot_if (is_exit (register u.context 17)) (ends_process os u (register u.context 10 % 256)) (memory_entered os u (register u.context 17)) os.boot refl (entered-boot-memory os u (register u.context 17))))
+    (boot_if (is_exit (register u.context 17)) (exit_entered os u (register u.context 17)) (descriptor_entered os u (register u.context 17)) os.boot (entered-boot-exit os u (register u.context 17)) (entered-boot-descriptors os u (register u.context 17))))
     refl
 
 same_runs : (m n : Mono) → Runs m ≡ Runs n → m ≡ n
