@@ -1,0 +1,120 @@
+//! Whole commands over a host and files in memory. Each line of the standard input says what there is, or plays a
+//! scene; what it came to is printed.
+//!
+//! - `scene TEXT` begins a scene without anything, and prints its text.
+//! - `file NAME BYTES` is a file of the host, `text NAME BYTES` one of the user; `lines NAME LINE; LINE` is one of the
+//!   user, of these lines.
+//! - `program NAME LINE; LINE` is a file of the host: what `asm` makes of these lines, and `put` puts there.
+//! - `input BYTES` is the console's input.
+//! - `fail EDGE NUMBER`: the call of this number of the input, output, errors, store, shelf or notes fails.
+//! - `do WORDS` is a command.
+//! - `play` carries out the commands on one new host; the files that it leaves are those that the scene goes on with.
+//!   `run WORDS` is a last command, and a `play`.
+//! - `each EDGE` carries them out again and again, with the first call of the edge failing, then the second, until
+//!   none fails, and prints each outcome that differs from the one before. The files are as before then.
+//!
+//! A word stands for bytes: pieces between `+`, each an escaped text, or a count, `*` and an escaped text.
+#![tactic(auto)]
+
+use anyhow::{Result, bail};
+use std::alloc::Global;
+
+mod forms;
+mod hosts;
+mod printing;
+mod scene;
+mod words;
+
+use hosts::play;
+use printing::told;
+use scene::{Edge, Failure, Scene, edge_of};
+use words::parted;
+
+/// How many calls of an edge are made to fail at most, one in each turn.
+const MOST_CALLS: u64 = 1_000;
+
+/// Plays the scene once, and goes on with the files that it leaves.
+fn play_once(alloc: Global, scene: &mut Scene) -> Result<String> {
+    let seen = play(alloc, scene, scene.failures.as_slice())?;
+    let text = told(alloc, scene, &seen)?;
+    scene.hold(seen.files, seen.texts);
+    scene.go_on();
+    Ok(text)
+}
+
+/// Adds a last command, and plays the scene.
+fn run(alloc: Global, scene: &mut Scene, words: &str) -> Result<String> {
+    scene.add_command(words)?;
+    play_once(alloc, scene)
+}
+
+/// Plays the scene with each call of the edge failing in turn, until none fails.
+fn play_each(alloc: Global, scene: &mut Scene, edge: Edge) -> Result<String> {
+    let mut all = String::new(alloc);
+    let mut last = String::new(alloc);
+    for call in 1..MOST_CALLS {
+        let seen = play(alloc, scene, [Failure { edge, call }].as_slice())?;
+        let text = told(alloc, scene, &seen)?;
+        if text != last {
+            all.push_str(text.as_str())?;
+        }
+        if !seen.counts.failed {
+            break;
+        }
+        last = text;
+    }
+    scene.go_on();
+    Ok(all)
+}
+
+/// Puts a program there, as `asm` and `put` make it.
+fn build(alloc: Global, scene: &mut Scene, rest: &str) -> Result<()> {
+    let (name, lines) = parted(rest);
+    let mut apart = Scene::new(alloc);
+    apart.take_line("lines", format!(in alloc; "p.s {lines}")?.as_str())?;
+    apart.add_command("asm p.s p")?;
+    apart.add_command(format!(in alloc; "put p {name}")?.as_str())?;
+    let seen = play(alloc, &apart, &[])?;
+    for status in &seen.statuses {
+        if *status != 0 {
+            bail!("no program {name}");
+        }
+    }
+    for (name, bytes) in seen.files {
+        scene.put_file(name, bytes)?;
+    }
+    Ok(())
+}
+
+/// Takes a line, and gives what is printed.
+fn take_line(alloc: Global, scene: &mut Scene, line: &str) -> Result<String> {
+    let (word, rest) = parted(line);
+    if scene.take_line(word, rest)? {
+        return Ok(String::new(alloc));
+    }
+    match word.as_bytes() {
+        b"scene" => {
+            *scene = Scene::new(alloc);
+            Ok(format!(in alloc; "{line}\n")?)
+        }
+        b"program" => {
+            build(alloc, scene, rest)?;
+            Ok(String::new(alloc))
+        }
+        b"play" => play_once(alloc, scene),
+        b"run" => run(alloc, scene, rest),
+        b"each" => play_each(alloc, scene, edge_of(rest)?),
+        b"" => Ok(String::new(alloc)),
+        _ => bail!("no line {line}"),
+    }
+}
+
+fn main(rt: HostRuntime) -> Result<()> {
+    let alloc = rt.alloc();
+    let mut scene = Scene::new(alloc);
+    for line in rt.lines(alloc) {
+        let text = take_line(alloc, &mut scene, line?.as_str())?;
+        print!(rt; "{text}")?;
+    }
+    Ok(())
+}
