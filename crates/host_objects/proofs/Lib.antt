@@ -7,3 +7,4 @@ pub mod EndedThreads
 pub mod MemoryRows
 pub mod TurnSteps
 pub mod Running
+pub mod TakenSteps

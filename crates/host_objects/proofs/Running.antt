@@ -7,9 +7,10 @@ use Rattle.std.proofs.Common.{refl, sym, ap, ◌∙◌}
 use Rattle.rv_core.specs.declared.context.Context.{Context}
 use Rattle.rv_core.specs.declared.context.Ended.{Ended}
 use Rattle.guest_space.specs.Space.{Space}
-use Rattle.abi_calls.specs.declared.object.Object.TheVariants.{Thread}
-use Rattle.abi_calls.specs.Objects.{Live, Object, Objects, object_at, running}
-use Rattle.host_objects.specs.Running.{RunsIn, RunsObject}
+use Rattle.bas_items.proofs.NumberMaps.{get-insert-other}
+use Rattle.abi_calls.specs.declared.object.Object.TheVariants.{Process, Thread, Event, Stream, ReadEnd, WriteEnd}
+use Rattle.abi_calls.specs.Objects.{Live, Object, Objects, object_at, running, is_some_thread}
+use Rattle.host_objects.specs.Running.{RunsIn, RunsObject, with_registers, SetsRegisters}
 use Rattle.host_objects.specs.Turns.{HasHome}
 
 -- What runs is there.
@@ -34,3 +35,25 @@ runs_in live live' p most x x' context ended context' at set runs = record {
   led = runs.led;
   now = set ∙ ap {A = Object} (insert live p) runs.now;
 }
+
+-- ---- the registers of a thread, where it stands
+pub thread_there : (x : Option Object) → is_some_thread x ≡ true → is_some x ≡ true
+thread_there None is = absurd cc
+thread_there (Some x) is = refl
+
+pub sets_registers : (live live' : Live) (t : ℕ) (x x' : Object) (context : Context) → get live t ≡ Some x → is_some_thread (Some x) ≡ true → x' ≡ with_registers x context
+    → live' ≡ insert live t x' → SetsRegisters live t context live'
+sets_registers live live' t (Thread p before) x' context at is registers set = record { process = p; before = before; was = at; now = set ∙ ap {A = Object} (insert live t) registers }
+sets_registers live live' t (Process memory code) x' context at is registers set = absurd cc
+sets_registers live live' t (Event set_) x' context at is registers set = absurd cc
+sets_registers live live' t (Stream name) x' context at is registers set = absurd cc
+sets_registers live live' t (ReadEnd pipe) x' context at is registers set = absurd cc
+sets_registers live live' t (WriteEnd pipe) x' context at is registers set = absurd cc
+
+-- A thread stays as it is when its process changes.
+pub thread_stays : (live live' : Live) (t p : ℕ) (context : Context) (s memory : Space) → get live t ≡ Some (Thread p context) → running (get live p) ≡ Some memory
+    → live' ≡ insert live p (Process s None) → get live' t ≡ Some (Thread p context)
+thread_stays live live' t p context s memory is runs set =
+    ap {A = Live} (λ m. get m t) set ∙ get-insert-other live p (Process s None) t (λ same.
+    let none : running (get live p) ≡ None = sym (ap (λ q. running (get live q)) same) ∙ ap running is in
+    absurd cc) ∙ is

@@ -1,27 +1,26 @@
 -- A turn, by the thread that is picked and by how it ends.
-use Rattle.std.specs.Prelude.{◌≡◌, ℕ, ◌==◌, Bool, true, false, not, List, [], ◌++◌, map, filter, unwrap_or, slice_index, slice_get, is_some}
+use Rattle.std.specs.Prelude.{◌≡◌, ℕ, not, List, [], ◌++◌, map, filter, unwrap_or, slice_index, slice_get, is_some}
 use Rattle.std.specs.List.{list_any}
-use Rattle.std.specs.FinMap.{insert}
-use Rattle.std.specs.declared.option.Option.{Option}
+use Rattle.std.specs.FinMap.{get, insert}
 use Rattle.std.specs.declared.option.Option.TheVariants.{None, Some}
-use Rattle.std.proofs.Common.{refl, sym, ap, ◌∙◌, cond, append-nil}
+use Rattle.std.proofs.Common.{refl, sym, ap, ◌∙◌, append-nil}
 use Rattle.std.proofs.lemmas.Bool.{cond-false}
 use Rattle.std.proofs.lemmas.Option.{unwrap_or-slice_get}
 use Rattle.rv_core.specs.declared.context.Context.{Context}
+use Rattle.rv_core.specs.declared.context.Ended.{Ended}
 use Rattle.rv_core.specs.Machine.{trap_of}
 use Rattle.turn_sched.specs.Lists.{Waiting, Lists}
 use Rattle.abi_calls.specs.declared.object.Object.TheVariants.{Thread}
 use Rattle.abi_calls.specs.declared.threads.Turned.{Turned}
 use Rattle.abi_calls.specs.declared.threads.Turned.TheVariants.{Stuck}
-use Rattle.abi_calls.specs.Objects.{Live, Object, Objects, object_at, running, with_object}
+use Rattle.abi_calls.specs.Objects.{Live, Objects, object_at, running}
 use Rattle.abi_calls.specs.Sound.{IsSound}
 use Rattle.abi_calls.specs.Turn.{is_due, with_due_ready, pick_of, turn_of_pick, world_turn}
-use Rattle.bas_items.proofs.NumberMaps.{get-insert}
 use Rattle.abi_calls.proofs.Facts.{ready_thread}
-use Rattle.host_objects.specs.declared.turns.Slice.{Slice}
 use Rattle.host_objects.specs.System.{wait_for_nothing, world_lists}
-use Rattle.host_objects.specs.Running.{RunsIn}
+use Rattle.host_objects.specs.Running.{RunsIn, SetsRegisters}
 use Rattle.host_objects.specs.Turns.{HasHome, RunsSlice}
+use Rattle.host_objects.proofs.Running.{thread_stays}
 use Rattle.host_objects.proofs.Lists.{none_passes, all_stay, any_waits}
 
 -- ---- where each thread that waits waits for nothing
@@ -63,26 +62,19 @@ ready_home o o1 place t sound at same =
 pub word_past : (words : List ℕ) (at : ℕ) → None ≡ slice_get words at → 0 ≡ slice_index words at
 word_past words at none = ap (λ o. unwrap_or o 0) none ∙ unwrap_or-slice_get words at 0
 
--- What is there stays there under another object's change.
-stays_some : {X : Type 0} (b : Bool) (x : X) (y : Option X) → is_some y ≡ true → is_some (cond b (Some x) y) ≡ true
-stays_some true x y some = refl
-stays_some false x y some = some
-
-pub there_after : (o o' : Objects) (t p : ℕ) (x y : Object) → object_at o t ≡ Some y → o' ≡ with_object o p x → is_some (object_at o' t) ≡ true
-there_after o o' t p x y some e =
-    ap (λ q. is_some (object_at q t)) e ∙ ap is_some (get-insert o.live p x t) ∙ stays_some (t == p) x (object_at o t) (ap is_some some)
-
 -- A thread ran in the pages of its process, and keeps the registers that it has now.
-pub ran_slice : (o o' : Objects) (t : ℕ) (slice : Slice) (context : Context) (live : Live) → object_at o t ≡ Some (Thread slice.process context)
-    → RunsIn o.live slice.process o.settings.slice context slice.ended live slice.context → o' ≡ record o { live = insert live t (Thread slice.process slice.context) } → RunsSlice o t slice o'
-ran_slice o o' t slice context live is ran set = record {
-  context = context;
-  memory = ran.memory;
-  is = is;
-  runs = ran.runs;
-  run = record { context = slice.context; space = ran.space; trap = trap_of slice.ended };
-  led = ran.led;
-  registers = refl;
-  trap = refl;
-  now = set ∙ ap {A = Live} (λ m. record o { live = insert m t (Thread slice.process slice.context) }) ran.now;
-}
+pub ran_slice : (o : Objects) (live' : Live) (t p : ℕ) (context : Context) (ended : Ended) (live : Live) (context' : Context) → object_at o t ≡ Some (Thread p context)
+    → RunsIn o.live p o.settings.slice context ended live context' → SetsRegisters live t context' live' → RunsSlice o t p context ended (record o { live = live' }) context'
+ran_slice o live' t p context ended live context' is ran set =
+    let stays : get live t ≡ Some (Thread p context) = thread_stays o.live live t p context ran.space ran.memory is ran.runs ran.now in
+    let threads : Some (Thread set.process set.before) ≡ Some (Thread p context) = sym set.was ∙ stays in
+    let home : set.process ≡ p = cc in
+    record {
+      memory = ran.memory;
+      runs = ran.runs;
+      run = record { context = context'; space = ran.space; trap = trap_of ended };
+      led = ran.led;
+      registers = refl;
+      trap = refl;
+      now = ap {A = Live} (λ m. record o { live = m }) (set.now ∙ ap (λ q. insert live t (Thread q context')) home ∙ ap {A = Live} (λ m. insert m t (Thread p context')) ran.now);
+    }

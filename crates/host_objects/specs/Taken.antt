@@ -1,6 +1,7 @@
 -- The pages of a process: taken out of the objects for a while, and what their refusals answer.
 use Rattle.std.specs.Prelude.{◌≡◌, ℕ, Result, Ok, Err}
-use Rattle.std.specs.FinMap.{empty}
+use Rattle.std.specs.FinMap.{empty, insert}
+use Rattle.std.specs.declared.option.Option.{Option}
 use Rattle.std.specs.declared.option.Option.TheVariants.{None, Some}
 use Rattle.bas_edge.specs.declared.errors.Memory.{Memory}
 use Rattle.bas_edge.specs.Errors.{memory}
@@ -11,8 +12,18 @@ use Rattle.guest_memory.specs.declared.error.PageError.TheVariants.{Overlap, Ful
 use Rattle.abi_calls.specs.declared.reply.Reply.{Reply}
 use Rattle.abi_calls.specs.declared.reply.Reply.TheVariants.{Exists, NoRoom, NoAccess, BadAddress}
 use Rattle.abi_calls.specs.declared.object.Object.TheVariants.{Process}
-use Rattle.abi_calls.specs.Objects.{Objects, object_at, running}
+use Rattle.abi_calls.specs.Objects.{Live, Object, Objects, object_at, running}
 use Rattle.abi_calls.specs.Memory.{with_pages}
+
+-- What is left of an object when its pages are taken out, which only a process that runs has.
+abbrev pub emptied : Object → Object
+emptied (Process space None) = Process empty None
+emptied object = object
+
+-- What is left of objects when the pages of a process are taken out, if there are any.
+abbrev pub without_pages : Live → ℕ → Option Space → Live
+without_pages live process (Some space) = insert live process (Process empty None)
+without_pages live process None = live
 
 -- A process runs, and is left without its pages.
 pub record Took (o : Objects) (process : ℕ) (o' : Objects) (memory : Space) : Type 0 where

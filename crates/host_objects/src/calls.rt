@@ -51,7 +51,7 @@ impl<N: Numbers + Drop> System<N> {
             Call::ThreadCreate { process, context } => self.thread_create(*process, *context),
             Call::ThreadResume { thread } => Ok(self.thread_resume(*thread)),
             Call::ThreadExit { thread } => Ok(self.thread_exit(*thread)),
-            Call::ThreadContext { thread, context } => Ok(self.thread_context(*thread, *context)),
+            Call::ThreadContext { thread, context } => Ok(self.thread_context(*thread, context)),
             Call::EventCreate => self.event_create(),
             Call::Share { stream } => self.share(*stream),
             Call::Close { handle } => Ok(self.close(*handle)),

@@ -1,11 +1,12 @@
-ghost use Rattle.std.specs.Prelude.{◌≡◌, ℕ, ◌^◌, ◌<◌, ◌==◌, ◌↔◌, length, is_some, IsTrue, IsSome, IfOk, OnErr};
+ghost use Rattle.std.specs.Prelude.{◌≡◌, ℕ, ◌^◌, ◌<◌, ◌==◌, ◌↔◌, length, is_some, true, IsTrue, IsSome, IfOk, OnErr};
 ghost use Rattle.std.specs.Option.{option_copied};
 ghost use Rattle.std.specs.FinMap as map;
 ghost use Rattle.std.specs.List.{list_any};
 ghost use Rattle.std.specs.Map.Iter.{ShowsInOrder, deref};
-ghost use Rattle.abi_calls.specs.Objects.{running};
+ghost use Rattle.abi_calls.specs.Objects.{running, is_some_thread};
 ghost use Rattle.host_objects.specs.Handles.{Adds};
-ghost use Rattle.host_objects.specs.Running.{RunsIn};
+ghost use Rattle.host_objects.specs.Running.{RunsIn, SetsRegisters};
+ghost use Rattle.host_objects.specs.Taken.{without_pages};
 
 use crate::numbers::Numbers;
 use crate::table::Table;
@@ -73,15 +74,6 @@ impl<N: Numbers + Drop, V: Drop> Handles<N, V> {
         }
     }
 
-    /// Puts a value in the place of the one under a number, which is given back. Takes no memory.
-    pub(crate) fn replace(&mut self, number: u64, value: V) -> V
-        requires { IsSome (map.get self.old number) }
-        ensures before { map.get self.old number ≡ Some result }
-        ensures after { self.new ≡ map.insert self.old number value }
-    {
-        self.table.replace(number, value)
-    }
-
     /// Puts a value in the place of the one under a number. Takes no memory.
     pub(crate) fn set(&mut self, number: u64, value: V)
         requires { IsSome (map.get self.old number) }
@@ -124,6 +116,22 @@ impl<N: Numbers + Drop, V: Drop> Handles<N, V> {
 }
 
 impl<N: Numbers + Drop> Handles<N, Object<Pages>> {
+    /// Takes the pages of a process that runs out of it; `None` where no such process runs. Takes no memory.
+    pub(crate) fn take_pages(&mut self, process: u64, alloc: Global) -> Option<Pages>
+        ensures taken { result ≡ running (map.get self.old process) }
+        ensures left { self.new ≡ without_pages self.old process result }
+    {
+        self.table.take_pages(process, alloc)
+    }
+
+    /// Gives a thread these registers, where it stands.
+    pub(crate) fn set_registers(&mut self, thread: u64, registers: &Context)
+        requires { is_some_thread (map.get self.old thread) ≡ true }
+        ensures { SetsRegisters self.old thread registers.now self.new }
+    {
+        self.table.set_registers(thread, registers);
+    }
+
     /// Does instructions of a thread in the pages of a process, where they stand, until one traps or `most` are done.
     pub(crate) fn run(
         &mut self,

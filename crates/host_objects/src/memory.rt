@@ -53,17 +53,7 @@ impl<N: Numbers + Drop> System<N> {
             (HasNone (system_objects self.old) process (system_objects self.new))
             (Took (system_objects self.old) process (system_objects self.new)) }
     {
-        if self.memory(process).is_none() {
-            return None;
-        }
-        let emptied = Object::Process {
-            memory: Pages::new(self.alloc),
-            code: None,
-        };
-        match self.handles.replace(process, emptied) {
-            Object::Process { memory, code: None } => Some(memory),
-            _ => unreachable!(),
-        }
+        self.handles.take_pages(process, self.alloc)
     }
 
     /// Puts pages back into their process.

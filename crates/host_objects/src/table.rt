@@ -1,11 +1,12 @@
-ghost use Rattle.std.specs.Prelude.{◌≡◌, ℕ, ◌^◌, ◌<◌, ◌==◌, ◌↔◌, length, is_some, Some, IsTrue, IsSome, IfOk, OnOk, OnErr};
+ghost use Rattle.std.specs.Prelude.{◌≡◌, ℕ, ◌^◌, ◌<◌, ◌==◌, ◌↔◌, length, is_some, Some, true, IsTrue, IsSome, IfOk, OnOk, OnErr};
 ghost use Rattle.std.specs.Option.{option_copied};
 ghost use Rattle.std.specs.Ordering.{nat_cmp};
 ghost use Rattle.std.specs.FinMap as map;
 ghost use Rattle.std.specs.List.{list_any};
 ghost use Rattle.std.specs.Map.Iter.{ShowsInOrder, deref};
-ghost use Rattle.abi_calls.specs.Objects.{running};
-ghost use Rattle.host_objects.specs.Running.{RunsIn, RunsObject};
+ghost use Rattle.abi_calls.specs.Objects.{running, is_some_thread};
+ghost use Rattle.host_objects.specs.Running.{RunsIn, RunsObject, with_registers, SetsRegisters};
+ghost use Rattle.host_objects.specs.Taken.{emptied, without_pages};
 
 use abi_calls::Object;
 use bas_edge::Memory;
@@ -64,18 +65,6 @@ impl<V: Drop> Table<V> {
         }
     }
 
-    /// Puts a value in the place of that of a number, which is given back. Takes no memory.
-    pub(crate) fn replace(&mut self, number: u64, value: V) -> V
-        requires { IsSome (map.get self.old number) }
-        ensures before { map.get self.old number ≡ Some result }
-        ensures after { self.new ≡ map.insert self.old number value }
-    {
-        match self.entries.get_mut(&number) {
-            Some(place) => mem::replace(place, value),
-            None => unreachable!(),
-        }
-    }
-
     /// Puts a value in the place of that of a number. Takes no memory.
     pub(crate) fn set(&mut self, number: u64, value: V)
         requires { IsSome (map.get self.old number) }
@@ -131,7 +120,49 @@ fn run_in(object: &mut Object<Pages>, context: &mut Context, memo: &mut Memo, mo
     }
 }
 
+/// Takes the pages of a process that runs out of it. Takes no memory.
+fn take_pages_of(object: &mut Object<Pages>, alloc: Global) -> Option<Pages>
+    ensures taken { result ≡ running (Some object.old) }
+    ensures left { object.new ≡ emptied object.old }
+{
+    match object {
+        Object::Process { memory, code: None } => Some(mem::replace(memory, Pages::new(alloc))),
+        _ => None,
+    }
+}
+
+/// Gives a thread these registers.
+fn set_registers_of(object: &mut Object<Pages>, registers: &Context)
+    requires { is_some_thread (Some object.old) ≡ true }
+    ensures { object.new ≡ with_registers object.old registers.now }
+{
+    match object {
+        Object::Thread { context, .. } => *context = *registers,
+        _ => unreachable!(),
+    }
+}
+
 impl Table<Object<Pages>> {
+    /// Takes the pages of a process that runs out of it; `None` where no such process runs. Takes no memory.
+    pub(crate) fn take_pages(&mut self, process: u64, alloc: Global) -> Option<Pages>
+        ensures taken { result ≡ running (map.get self.old process) }
+        ensures left { self.new ≡ without_pages self.old process result }
+    {
+        let object = self.entries.get_mut(&process)?;
+        take_pages_of(object, alloc)
+    }
+
+    /// Gives a thread these registers, where it stands.
+    pub(crate) fn set_registers(&mut self, thread: u64, registers: &Context)
+        requires { is_some_thread (map.get self.old thread) ≡ true }
+        ensures { SetsRegisters self.old thread registers.now self.new }
+    {
+        match self.entries.get_mut(&thread) {
+            Some(object) => set_registers_of(object, registers),
+            None => unreachable!(),
+        }
+    }
+
     /// Does instructions of a thread in the pages of a process, where they stand, until one traps or `most` are done.
     pub(crate) fn run(
         &mut self,

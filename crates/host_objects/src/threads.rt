@@ -61,19 +61,17 @@ impl<N: Numbers + Drop> System<N> {
     }
 
     /// ThreadContext.
-    pub(crate) fn thread_context(&mut self, thread: u64, context: Context) -> Reply
-        ensures { Row (system_objects self.old) (ThreadContext thread context)
+    pub(crate) fn thread_context(&mut self, thread: u64, context: &Context) -> Reply
+        ensures { Row (system_objects self.old) (ThreadContext thread context.now)
             result (system_objects self.new) }
     {
-        let Some(Object::Thread { process, .. }) = self.handles.get(thread) else {
+        let Some(Object::Thread { .. }) = self.handles.get(thread) else {
             return Reply::BadHandle;
         };
-        let process = *process;
         if !self.schedule.rests(thread) {
             return Reply::Busy;
         }
-        self.handles
-            .set(thread, Object::Thread { process, context });
+        self.handles.set_registers(thread, context);
         Reply::Done
     }
 

@@ -11,14 +11,6 @@ use crate::system::System;
 use abi_calls::{Object, Turned, Upcall};
 use rv_core::{Context, Ended};
 
-/// What a thread did in a turn: its process, the registers that it has now, and how it ended.
-#[derive(Clone, Copy)]
-struct Slice {
-    process: u64,
-    context: Context,
-    ended: Ended,
-}
-
 impl<N: Numbers + Drop> System<N> {
     /// Makes a turn: the ready thread that the next word of the tape picks does up to `slice` instructions, and
     /// joins the end of the ready ones, or is current if it trapped. Takes no memory.
@@ -33,18 +25,18 @@ impl<N: Numbers + Drop> System<N> {
         };
         self.positions.turns = self.positions.turns.wrapping_add(1);
         self.positions.pick = self.positions.pick.wrapping_add(1);
-        let slice = self.run(thread);
-        match slice.ended {
+        let (process, mut context) = self.home(thread);
+        match self.run(thread, process, &mut context) {
             Ended::Ran => {
                 self.schedule.back();
                 Turned::Ran
             }
             Ended::Trapped(trap) => Turned::Exception(Upcall {
-                process: slice.process,
+                process,
                 thread,
                 cause: trap.cause,
                 value: trap.value,
-                context: slice.context,
+                context,
             }),
         }
     }
@@ -70,22 +62,16 @@ impl<N: Numbers + Drop> System<N> {
         }
     }
 
-    /// Runs a thread in the pages of its process.
-    fn run(&mut self, thread: u64) -> Slice
-        requires { HasHome (system_objects self.old) thread }
-        ensures { RunsSlice (system_objects self.old) thread result (system_objects self.new) }
+    /// Runs a thread with its registers in the pages of its process, and keeps the registers that it has then.
+    fn run(&mut self, thread: u64, process: u64, context: &mut Context) -> Ended
+        requires home { HasHome (system_objects self.old) thread }
+        requires is { object_at (system_objects self.old) thread ≡ Some (Thread process context.old) }
+        ensures { RunsSlice (system_objects self.old) thread process context.old
+            result (system_objects self.new) context.new }
     {
         let most = self.settings.slice;
-        let (process, mut context) = self.home(thread);
-        let ended = self
-            .handles
-            .run(process, &mut context, &mut self.memo, most);
-        self.handles
-            .set(thread, Object::Thread { process, context });
-        Slice {
-            process,
-            context,
-            ended,
-        }
+        let ended = self.handles.run(process, context, &mut self.memo, most);
+        self.handles.set_registers(thread, context);
+        ended
     }
 }

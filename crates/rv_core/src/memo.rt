@@ -55,7 +55,8 @@ impl Memo {
     }
 }
 
-/// The instruction that `word`, met at `at`, spells; `None` exactly where the word is illegal.
+/// The instruction that `word`, met at `at`, spells; `None` exactly where the word is illegal. One that is decoded anew
+/// is made again from its fields: as a whole, it would be carried through memory, and with it each that a slot notes.
 #[inline(always)]
 pub(crate) fn decode_at(slots: &mut [Noted], at: u64, word: u32) -> Option<Instr>
     ensures value { result ≡ decoded word }
@@ -67,7 +68,8 @@ pub(crate) fn decode_at(slots: &mut [Noted], at: u64, word: u32) -> Option<Instr
             return Some(slot.instr);
         }
     }
-    note(slots, place, word)
+    let instr = note(slots, place, word)?;
+    Some(Instr::new(instr.op, instr.rd, instr.rs1, instr.rs2, instr.imm))
 }
 
 /// Decodes `word`, and notes it in the slot at `place`, if there is one.

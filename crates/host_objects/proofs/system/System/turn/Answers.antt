@@ -4,8 +4,11 @@ use Rattle.host_objects.specs.System.{system_objects}
 use Rattle.host_objects.proofs.TurnSteps.{ready_home, turn_by_pick, turn_stuck}
 use Rattle.host_objects.proofs.system.System.turn.Goals as goal
 
-pub run-slice-requires : goal.run-slice-requires
-run-slice-requires g c = ready_home (system_objects c.args.self.now) _ (pick_of (system_objects c.args.self.now)) c.in-Some.thread c.requires.sound (search rules) refl
+pub home-process-requires : goal.home-process-requires
+home-process-requires g c = ready_home (system_objects c.args.self.now) _ (pick_of (system_objects c.args.self.now)) c.in-Some.thread c.requires.sound (search rules) refl
+
+pub run-requires-clause-home : goal.run-requires-clause-home
+run-requires-clause-home g c = ready_home (system_objects c.args.self.now) _ (pick_of (system_objects c.args.self.now)) c.in-Some.thread c.requires.sound (search rules) refl
 
 pub returns-in_default : goal.returns-in_default
 returns-in_default g c = turn_stuck (system_objects c.args.self.now) _ c.args.self.now.schedule.lists refl (search rules) (search rules)
