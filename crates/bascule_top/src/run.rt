@@ -6,7 +6,6 @@ ghost use Rattle.bascule_top.specs.Runs.{EndsRun, BreaksRun};
 ghost use Rattle.bascule_top.specs.States.{over, state_of};
 
 use abi_calls::Host;
-use libos_calls::exit_code;
 use std::alloc::Global;
 use turn_engine::{EngineError, Machine, TurnEnd};
 
@@ -39,7 +38,7 @@ pub fn run<H: Host>(
     ensures cause { HasCause EngineError.Failed (H.fault_count host.old) (H.fault_count host.new) result }
 {
     for turn in 0..TURNS {
-        if let Some(code) = exit_code(&machine.os) {
+        if let Some(code) = machine.os.exit_code() {
             return Ok(RunEnd::Exited(code));
         }
         match machine.turn(alloc, host)? {
@@ -49,7 +48,7 @@ pub fn run<H: Host>(
             TurnEnd::Served => {}
         }
     }
-    match exit_code(&machine.os) {
+    match machine.os.exit_code() {
         Some(code) => Ok(RunEnd::Exited(code)),
         None => Ok(RunEnd::Bound),
     }

@@ -21,8 +21,7 @@ use abi_calls::{Host, Settings};
 use bas_edge::{EdgeError, Memory, Shelf, Sink};
 use bas_items::Items;
 use bas_outcomes::{Outcome, tell};
-use libos_calls::{boot, booted};
-use libos_state::Boot;
+use libos_state::{Boot, LibOs};
 use std::alloc::Global;
 use turn_engine::{EngineError, Machine};
 
@@ -73,7 +72,7 @@ fn begin<H: Host>(
     ensures cause { HasCause EngineError.Failed (H.fault_count host.old) (H.fault_count host.new) result }
 {
     let texts = arguments(alloc, args)?;
-    let os = boot(alloc, name.as_bytes(), texts, settings_of_start(alloc))?;
+    let os = LibOs::boot(alloc, name.as_bytes(), texts, settings_of_start(alloc))?;
     let mut machine = Machine { os };
     machine.boot(alloc, host)?;
     Ok(machine)
@@ -94,7 +93,7 @@ fn start<H: Host>(
     ensures cause { HasCause EngineError.Failed (H.fault_count host.old) (H.fault_count host.new) result }
 {
     let mut machine = begin(alloc, name, args, host)?;
-    match booted(&machine.os) {
+    match machine.os.booted() {
         Boot::Going => unreachable!(),
         Boot::NoProgram => Ok(no_program(alloc, name.as_bytes())?),
         Boot::BadProgram(cause) => Ok(Outcome::BadProgram(cause)),

@@ -24,7 +24,7 @@ use Rattle.libos_state.specs.Pending.{number, is_brk, runs_in, run_in, run_piece
 use Rattle.libos_state.specs.Answered.{bare, starting, with_step, with_change, service_with_result, service_closing, break_change, mapping_step, changed_step, load_step, answered_at, answered, answered_in, closing_change}
 use Rattle.libos_state.specs.Kept.{KeptAt, IsKept}
 use Rattle.libos_state.proofs.Programs.{few_runs, lies_behind}
-use Rattle.libos_calls.proofs.Pieces.{length-run_piece}
+use Rattle.libos_state.proofs.RunPieces.{length-run_piece}
 use Rattle.libos_calls.specs.Left.{weighed, runs_left, left_at, left_of, calls_left, IsLengthSmall}
 
 closes_falls : (c : Cont) (handles : List ℕ) → left_of (Some (service_closing c (drop 1 handles))) < weighed 0 0 1 (length handles) + 1

@@ -1,9 +1,5 @@
-pub mod Blocks
-pub mod Pieces
-pub mod Deciding
 pub mod Keeps
-pub mod Layouts
 pub mod Falls
 pub mod Steps
-pub mod Numbers
 pub mod Closings
+pub mod Onces

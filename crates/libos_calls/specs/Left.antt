@@ -1,6 +1,6 @@
 -- How far a service is from its end: a number that falls with each reply, so that every service
 -- ends.
-use Rattle.std.specs.Prelude.{ℕ, ◌+◌, ◌-◌, ◌*◌, ◌^◌, ◌<◌, length}
+use Rattle.std.specs.Prelude.{ℕ, Bool, false, ◌+◌, ◌-◌, ◌*◌, ◌^◌, ◌<◌, length}
 use Rattle.std.specs.declared.option.Option.{Option}
 use Rattle.std.specs.declared.option.Option.TheVariants.{None, Some}
 use Rattle.abi_calls.specs.declared.reply.Reply.{Reply}
@@ -11,6 +11,11 @@ use Rattle.libos_state.specs.declared.cont.Stage.{Stage}
 use Rattle.libos_state.specs.declared.cont.Stage.TheVariants.{SetContext, Resume, CloseEvent, ExitThread, CloseHandles, ExitProcess, ReadBuffer, WriteStream, AllocatePages, FreePages, ProtectPages, Configure, OpenConsole, OpenProgram, ProgramLength, ReadProgram, CloseProgram, CreateProcess, AllocateRun, WriteRun, ProtectRun, AllocateStack, WriteBlock, CreateThread, CreateEvent, StartThread, CloseStream}
 use Rattle.libos_state.specs.declared.state.LibOs.{LibOs}
 use Rattle.libos_state.specs.Pending.{number, runs_in, run_in}
+use Rattle.libos_state.specs.Stages.{is_at_end}
+
+abbrev pub is_ending : Option Cont → Bool
+is_ending None = false
+is_ending (Some c) = is_at_end c.stage
 
 -- How many phases are behind this one. A start opens and reads the program, then loads its runs,
 -- and then begins; every other service has one phase.

@@ -4,44 +4,18 @@ ghost use Rattle.mono_model.specs.Machine as machine;
 ghost use Rattle.libos_state.specs.Answered as answered;
 ghost use Rattle.libos_state.specs.Breaks as spec;
 ghost use Rattle.libos_state.specs.Entered as entered;
-ghost use Rattle.libos_state.specs.Kept.{KeptAt};
-ghost use Rattle.libos_state.specs.Pending as pending;
 ghost use Rattle.libos_state.specs.Pending.{upcall_in};
 ghost use Rattle.libos_state.specs.Records.{process_with};
 
-use crate::kept::{A0, process_by_handle, upcall_of};
 use crate::mapping::{EINVAL, at_pages, pages_changed, pages_for};
 use crate::replies::finishing;
 use abi_calls::{Reply, Upcall};
 use bas_items::Items;
-use libos_state::{Change, Cont, Event, LibOs, ProcessNote, Stage, Step};
+use libos_state::{
+    A0, Change, Cont, Event, LibOs, ProcessNote, Stage, Step, is_brk, process_by_handle, upcall_of,
+};
 use mono_model::BreakMove;
 use std::alloc::{AllocError, Global};
-
-/// The number of the system call.
-pub const BRK: u64 = 214;
-
-/// The rights to read and to write.
-const READ_WRITE: u8 = 3;
-
-/// Whether the system call that a service serves is brk.
-pub fn is_brk(cont: &Cont) -> bool
-    ensures { result ≡ pending.is_brk cont.now }
-{
-    upcall_of(&cont.event).context.x[A0 + 7] == BRK
-}
-
-/// The rights of the pages that are made.
-pub fn rights_made(cont: &Cont) -> u8
-    requires { KeptAt cont.now Stage.AllocatePages }
-    ensures { result ≡ pending.rights_made cont.now }
-{
-    if is_brk(cont) {
-        READ_WRITE
-    } else {
-        upcall_of(&cont.event).context.x[A0 + 2] as u8
-    }
-}
 
 /// Where the break stands of the process that has a handle; 0 where there is none.
 fn break_of(os: &LibOs, handle: u64) -> u64
@@ -136,11 +110,11 @@ pub fn give_break(os: &mut LibOs, alloc: Global, event: Event)
 }
 
 /// Begins to serve brk: pages are made, or go, before the break moves; within its page it moves at once.
-pub fn enter_break(os: &mut LibOs, alloc: Global, upcall: Upcall) -> Result<(), AllocError>
-    ensures { OnOk result (os.new ≡ entered.brk_entered os.old upcall) }
+pub fn enter_break(os: &mut LibOs, alloc: Global, upcall: &Upcall) -> Result<(), AllocError>
+    ensures { OnOk result (os.new ≡ entered.brk_entered os.old upcall.now) }
 {
-    let event = Event::Up(upcall);
-    match break_goes(os, &upcall) {
+    let event = Event::Up(*upcall);
+    match break_goes(os, upcall) {
         BreakMove::Grows { page, count } => {
             os.cont = Some(at_pages(alloc, event, Stage::AllocatePages, page, count)?);
         }

@@ -13,14 +13,14 @@ ghost use Rattle.libos_state.specs.declared.notes.DescriptorNote.{DescriptorNote
 ghost use Rattle.libos_state.specs.declared.state.LibOs.{LibOs};
 
 use crate::entered::{EBADF, SYSTEM_CALL, pid_with};
-use crate::kept::{
-    A0, description_of, descriptor_by_number, number_at, process_by_handle, upcall_of,
-};
 use crate::mapping::EINVAL;
-use crate::replies::{bare, error, finishing, returned};
+use crate::replies::{bare, error, getting, returned};
 use abi_calls::Upcall;
 use bas_items::Items;
-use libos_state::{Change, Cont, Description, DescriptorNote, Event, LibOs, ProcessNote, Stage};
+use libos_state::{
+    A0, Change, Cont, Description, DescriptorNote, Event, LibOs, ProcessNote, Stage,
+    description_of, descriptor_by_number, number_at, process_by_handle, upcall_of,
+};
 use rv_core::Context;
 use std::alloc::{AllocError, Global};
 
@@ -44,10 +44,7 @@ const CLOSE_ON_EXEC: u64 = 0x80000;
 pub fn stream_closed(alloc: Global, cont: Cont) -> Cont
     ensures { result ≡ record (answered.bare cont Stage.SetContext) { next = cont.next } }
 {
-    let next = cont.next;
-    let mut resumed = bare(alloc, cont.event, Stage::SetContext);
-    resumed.next = next;
-    resumed
+    getting(alloc, cont.event, Stage::SetContext, cont.next)
 }
 
 /// Whether the trap is the system call of this number.
@@ -297,34 +294,35 @@ fn is_last(os: &LibOs, pid: u64, fd: u64, id: u64) -> bool
 /// The service that closes a stream, and then gives the result.
 fn closing_stream(
     alloc: Global,
-    upcall: Upcall,
+    upcall: &Upcall,
     handle: u64,
     result_in_a0: u64,
 ) -> Result<Cont, AllocError>
-    ensures { IfOk result (λ cont. cont ≡ entered.service_with_stream (entered.entered_with upcall) handle result_in_a0) }
+    ensures { IfOk result (λ cont. cont ≡ entered.service_with_stream (entered.entered_with upcall.now) handle result_in_a0) }
 {
     let handles = Items::from_slice(alloc, &[handle])?;
-    let mut cont = bare(alloc, Event::Up(upcall), Stage::CloseStream);
-    cont.next = returned(upcall.context, result_in_a0);
+    let next = returned(&upcall.context, result_in_a0);
+    let mut cont = getting(alloc, Event::Up(*upcall), Stage::CloseStream, next);
     cont.handles = handles;
     Ok(cont)
 }
 
 /// Begins to serve a call whose result is known.
-fn give(os: &mut LibOs, alloc: Global, upcall: Upcall, result_in_a0: u64)
-    ensures { os.new ≡ entered.result_of os.old upcall result_in_a0 }
+pub fn give(os: &mut LibOs, alloc: Global, upcall: &Upcall, result_in_a0: u64)
+    ensures { os.new ≡ entered.result_of os.old upcall.now result_in_a0 }
 {
-    os.cont = Some(finishing(alloc, Event::Up(upcall), result_in_a0));
+    let next = returned(&upcall.context, result_in_a0);
+    os.cont = Some(getting(alloc, Event::Up(*upcall), Stage::SetContext, next));
 }
 
 /// Begins to serve close.
 pub fn enter_close(
     os: &mut LibOs,
     alloc: Global,
-    upcall: Upcall,
+    upcall: &Upcall,
     description: Option<Description>,
 ) -> Result<(), AllocError>
-    ensures { OnOk result (os.new ≡ entered.close_entered os.old upcall description) }
+    ensures { OnOk result (os.new ≡ entered.close_entered os.old upcall.now description) }
 {
     let Some(description) = description else {
         give(os, alloc, upcall, error(EBADF));
@@ -378,11 +376,11 @@ fn free_descriptor(os: &LibOs, process: u64) -> Option<u64>
 fn give_descriptor(
     os: &mut LibOs,
     alloc: Global,
-    upcall: Upcall,
+    upcall: &Upcall,
     fd: u64,
     id: u64,
 ) -> Result<(), AllocError>
-    ensures { OnOk result (os.new ≡ entered.result_of (spec.with_descriptor os.old (records.pid_with os.old upcall.process) fd id) upcall fd) }
+    ensures { OnOk result (os.new ≡ entered.result_of (spec.with_descriptor os.old (records.pid_with os.old upcall.now.process) fd id) upcall.now fd) }
 {
     let pid = pid_with(os, upcall.process);
     open_descriptor(os, alloc, pid, fd, id)?;
@@ -394,10 +392,10 @@ fn give_descriptor(
 pub fn enter_dup(
     os: &mut LibOs,
     alloc: Global,
-    upcall: Upcall,
+    upcall: &Upcall,
     description: Option<Description>,
 ) -> Result<(), AllocError>
-    ensures { OnOk result (os.new ≡ entered.dup_entered os.old upcall description) }
+    ensures { OnOk result (os.new ≡ entered.dup_entered os.old upcall.now description) }
 {
     let Some(description) = description else {
         give(os, alloc, upcall, error(EBADF));
@@ -428,11 +426,11 @@ fn dup3_known(context: &Context) -> Option<u64>
 fn enter_over(
     os: &mut LibOs,
     alloc: Global,
-    upcall: Upcall,
+    upcall: &Upcall,
     id: u64,
     over: Option<Description>,
 ) -> Result<(), AllocError>
-    ensures { OnOk result (os.new ≡ entered.dup3_over os.old upcall (register upcall.context 11) id over) }
+    ensures { OnOk result (os.new ≡ entered.dup3_over os.old upcall.now (register upcall.now.context 11) id over) }
 {
     let new = upcall.context.x[A0 + 1];
     let pid = pid_with(os, upcall.process);
@@ -446,8 +444,8 @@ fn enter_over(
 }
 
 /// Begins to serve dup3.
-pub fn enter_dup3(os: &mut LibOs, alloc: Global, upcall: Upcall) -> Result<(), AllocError>
-    ensures { OnOk result (os.new ≡ entered.dup3_unless os.old upcall (calls.dup3_known upcall.context)) }
+pub fn enter_dup3(os: &mut LibOs, alloc: Global, upcall: &Upcall) -> Result<(), AllocError>
+    ensures { OnOk result (os.new ≡ entered.dup3_unless os.old upcall.now (calls.dup3_known upcall.now.context)) }
 {
     if let Some(known) = dup3_known(&upcall.context) {
         give(os, alloc, upcall, known);

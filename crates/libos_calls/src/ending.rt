@@ -5,12 +5,11 @@ ghost use Rattle.libos_state.specs.Entered as spec;
 ghost use Rattle.libos_state.specs.Records as records;
 
 use crate::entered::tid_with;
-use crate::kept::thread_by_handle;
 use crate::replies::bare;
 use abi_calls::Upcall;
 use bas_edge::Memory;
 use bas_items::Items;
-use libos_state::{Cont, Event, LibOs, Queued, Stage, ThreadNote};
+use libos_state::{Cont, Event, LibOs, Queued, Stage, ThreadNote, thread_by_handle};
 use std::alloc::{AllocError, Global};
 
 /// Whether the process has a thread other than this one.
@@ -71,17 +70,17 @@ fn forget_thread(os: &mut LibOs, alloc: Global, tid: u64) -> Result<(), AllocErr
 }
 
 /// The service of a thread that ends alone, whose event is to be closed.
-fn leaving(alloc: Global, upcall: Upcall, event: u64) -> Result<Cont, AllocError>
-    ensures { IfOk result (λ cont. cont ≡ service_leaving (spec.entered_with upcall) event) }
+fn leaving(alloc: Global, upcall: &Upcall, event: u64) -> Result<Cont, AllocError>
+    ensures { IfOk result (λ cont. cont ≡ service_leaving (spec.entered_with upcall.now) event) }
 {
-    let mut cont = bare(alloc, Event::Up(upcall), Stage::CloseEvent);
+    let mut cont = bare(alloc, Event::Up(*upcall), Stage::CloseEvent);
     cont.handles = Items::from_slice(alloc, &[event])?;
     Ok(cont)
 }
 
 /// A thread ends alone: its event is to be closed.
-pub fn end_thread(os: &mut LibOs, alloc: Global, upcall: Upcall) -> Result<(), Memory>
-    ensures { OnOk result (os.new ≡ spec.ends_thread os.old upcall) }
+pub fn end_thread(os: &mut LibOs, alloc: Global, upcall: &Upcall) -> Result<(), Memory>
+    ensures { OnOk result (os.new ≡ spec.ends_thread os.old upcall.now) }
 {
     let tid = tid_with(os, upcall.thread);
     let cont = leaving(alloc, upcall, event_with(os, upcall.thread))?;

@@ -1,5 +1,4 @@
 ghost use Rattle.std.specs.Prelude.{◌≡◌, ◌<◌, ◌^◌, ◌==◌, not, filter, IfOk, OnOk, map, ◌++◌};
-ghost use Rattle.std.specs.List.{list_any};
 ghost use Rattle.mono_model.specs.Calls.{fault_code, EXIT};
 ghost use Rattle.mono_model.specs.Machine.{register};
 ghost use Rattle.libos_state.specs.Entered as spec;
@@ -8,16 +7,19 @@ ghost use Rattle.libos_state.specs.Laws.{EntersTurn};
 ghost use Rattle.libos_state.specs.declared.notes.Description.{Description};
 ghost use Rattle.libos_state.specs.declared.state.LibOs.{LibOs};
 
-use crate::breaking::{BRK, enter_break};
-use crate::closing::{CLOSE, DUP, DUP3, enter_close, enter_dup, enter_dup3};
+use crate::breaking::enter_break;
+use crate::closing::{CLOSE, DUP, DUP3, enter_close, enter_dup, enter_dup3, give};
 use crate::ending::{end_thread, has_other_thread};
-use crate::kept::{A0, description_of, process_by_handle, thread_by_handle, thread_by_tid};
-use crate::mapping::memory_service;
+use crate::mapping::{MMAP, MPROTECT, MUNMAP, mmap_service, mprotect_service, munmap_service};
+use crate::process_end::{handles_to_close, is_open_without};
 use crate::replies::{bare, closing, error, finishing};
 use abi_calls::Upcall;
 use bas_edge::Memory;
 use bas_items::Items;
-use libos_state::{Cont, Description, Event, LibOs, ProcessNote, Queued, Stage, ThreadNote};
+use libos_state::{
+    A0, BRK, Cont, Description, Event, LibOs, ProcessNote, Queued, Stage, ThreadNote,
+    description_of, process_by_handle, thread_by_handle, thread_by_tid,
+};
 use std::alloc::{AllocError, Global};
 
 /// The numbers of the system calls.
@@ -59,29 +61,29 @@ fn code_of_fault(cause: u8) -> u8
 }
 
 /// The service of a write to an open description, of so many bytes.
-fn write_to(alloc: Global, upcall: Upcall, access: u8, count: u64) -> Cont
-    requires { count ≡ register upcall.context 12 }
+fn write_to(alloc: Global, upcall: &Upcall, access: u8, count: u64) -> Cont
+    requires { count ≡ register upcall.now.context 12 }
     ensures { (os : LibOs) (d : Description) → d.access ≡ access
-        → spec.write_entered os upcall (Some d) ≡ record os { cont = Some result } }
+        → spec.write_entered os upcall.now (Some d) ≡ record os { cont = Some result } }
 {
     if access & WRITABLE == WRITABLE {
         if count == 0 {
-            finishing(alloc, Event::Up(upcall), 0)
+            finishing(alloc, Event::Up(*upcall), 0)
         } else {
-            bare(alloc, Event::Up(upcall), Stage::ReadBuffer)
+            bare(alloc, Event::Up(*upcall), Stage::ReadBuffer)
         }
     } else {
-        finishing(alloc, Event::Up(upcall), error(EBADF))
+        finishing(alloc, Event::Up(*upcall), error(EBADF))
     }
 }
 
 /// The service of a write.
-fn write_service(alloc: Global, upcall: Upcall, description: Option<Description>) -> Cont
-    ensures { (os : LibOs) → spec.write_entered os upcall description ≡ record os { cont = Some result } }
+fn write_service(alloc: Global, upcall: &Upcall, description: Option<Description>) -> Cont
+    ensures { (os : LibOs) → spec.write_entered os upcall.now description ≡ record os { cont = Some result } }
 {
     match description {
         Some(description) => write_to(alloc, upcall, description.access, upcall.context.x[A0 + 2]),
-        None => finishing(alloc, Event::Up(upcall), error(EBADF)),
+        None => finishing(alloc, Event::Up(*upcall), error(EBADF)),
     }
 }
 
@@ -126,76 +128,6 @@ fn known_result(os: &LibOs, upcall: &Upcall, number: u64) -> u64
         GETTID => tid_with(os, upcall.thread),
         _ => error(ENOSYS),
     }
-}
-
-/// Whether a descriptor of the process names the description.
-pub fn has_open(note: &ProcessNote, id: u64) -> bool
-    ensures { result ≡ list_any (λ d. d.description == id) note.now.descriptors }
-{
-    note.descriptors
-        .as_slice()
-        .iter()
-        .any(|named| named.description == id)
-}
-
-/// Whether a descriptor of a process other than this one names the description.
-fn names_description(note: &ProcessNote, pid: u64, id: u64) -> bool
-    ensures { result ≡ spec.names_description pid id note.now }
-{
-    note.pid != pid && has_open(note, id)
-}
-
-/// Whether a process other than this one has the description open.
-fn is_open_without(processes: &[ProcessNote], pid: u64, id: u64) -> bool
-    ensures { result ≡ list_any (spec.names_description pid id) processes.now }
-{
-    processes
-        .iter()
-        .any(|note| names_description(note, pid, id))
-}
-
-/// The descriptions that the process alone has open.
-fn descriptions_of(alloc: Global, os: &LibOs, pid: u64) -> Result<Items<Description>, AllocError>
-    ensures { IfOk result (λ own.
-        own ≡ filter (λ d. not (spec.is_open_without os.now pid d.id)) os.now.descriptions) }
-{
-    let processes = os.processes.as_slice();
-    let own = os
-        .descriptions
-        .as_slice()
-        .iter()
-        .copied()
-        .filter(|note| !is_open_without(processes, pid, note.id))
-        .collect(alloc)?;
-    Ok(Items::from_vec(own))
-}
-
-/// The threads of the process.
-fn threads_of(
-    alloc: Global,
-    threads: &[ThreadNote],
-    pid: u64,
-) -> Result<Items<ThreadNote>, AllocError>
-    ensures { IfOk result (λ own. own ≡ filter (λ n. n.pid == pid) threads.now) }
-{
-    let own = threads
-        .iter()
-        .copied()
-        .filter(|note| note.pid == pid)
-        .collect(alloc)?;
-    Ok(Items::from_vec(own))
-}
-
-/// The handles of the descriptions that the process alone has open, and those of its threads' events.
-fn handles_to_close(alloc: Global, os: &LibOs, pid: u64) -> Result<Items<u64>, AllocError>
-    ensures { IfOk result (λ handles. handles ≡ spec.handles_of os.now pid) }
-{
-    let descriptions = descriptions_of(alloc, os, pid)?;
-    let threads = threads_of(alloc, os.threads.as_slice(), pid)?;
-    let streams = descriptions.as_slice().iter().map(|note| note.handle);
-    let events = threads.as_slice().iter().map(|note| note.event);
-    let handles = streams.chain(events).collect(alloc)?;
-    Ok(Items::from_vec(handles))
 }
 
 /// The descriptions that a process other than this one has open.
@@ -305,20 +237,20 @@ fn forget_process(os: &mut LibOs, alloc: Global, pid: u64, code: u8) -> Result<(
 }
 
 /// A process ends: its handles are to be closed.
-fn end_process(os: &mut LibOs, alloc: Global, upcall: Upcall, code: u8) -> Result<(), Memory>
-    ensures { OnOk result (os.new ≡ spec.ends_process os.old upcall code) }
+fn end_process(os: &mut LibOs, alloc: Global, upcall: &Upcall, code: u8) -> Result<(), Memory>
+    ensures { OnOk result (os.new ≡ spec.ends_process os.old upcall.now code) }
 {
     let pid = pid_with(os, upcall.process);
     let handles = handles_to_close(alloc, os, pid)?;
     let numbers = Items::from_slice(alloc, &[u64::from(code)])?;
     forget_process(os, alloc, pid, code)?;
-    os.cont = Some(closing(alloc, Event::Up(upcall), handles, numbers));
+    os.cont = Some(closing(alloc, Event::Up(*upcall), handles, numbers));
     Ok(())
 }
 
 /// The thread ends where its process has another one, and else the process.
-fn exit(os: &mut LibOs, alloc: Global, upcall: Upcall) -> Result<(), Memory>
-    ensures { OnOk result (os.new ≡ spec.exit_entered os.old upcall EXIT) }
+fn exit(os: &mut LibOs, alloc: Global, upcall: &Upcall) -> Result<(), Memory>
+    ensures { OnOk result (os.new ≡ spec.exit_entered os.old upcall.now EXIT) }
 {
     let pid = pid_with(os, upcall.process);
     let tid = tid_with(os, upcall.thread);
@@ -329,12 +261,24 @@ fn exit(os: &mut LibOs, alloc: Global, upcall: Upcall) -> Result<(), Memory>
     }
 }
 
-/// Begins to serve a system call.
-fn enter_call(os: &mut LibOs, alloc: Global, upcall: Upcall) -> Result<(), Memory>
-    ensures { OnOk result (os.new ≡ spec.call_entered os.old upcall (register upcall.context 17)) }
+/// Begins to serve a call that asks who calls, or none that there is: its result is known.
+fn enter_known(os: &mut LibOs, alloc: Global, upcall: &Upcall, number: u64)
+    ensures { os.new ≡ spec.result_of os.old upcall.now (spec.known_result os.old upcall.now number) }
 {
-    let registers = upcall.context.x;
+    let known = known_result(os, upcall, number);
+    give(os, alloc, upcall, known);
+}
+
+/// Begins to serve a system call.
+fn enter_call(os: &mut LibOs, alloc: Global, upcall: &Upcall) -> Result<(), Memory>
+    ensures { OnOk result (os.new ≡ spec.call_entered os.old upcall.now (register upcall.now.context 17)) }
+{
+    let registers = &upcall.context.x;
     match registers[A0 + 7] {
+        number @ (SCHED_YIELD | GETPID | GETPPID | GETTID) => {
+            enter_known(os, alloc, upcall, number);
+            Ok(())
+        }
         WRITE => {
             let description = description_of(os, upcall.process, registers[A0]);
             os.cont = Some(write_service(alloc, upcall, description));
@@ -352,17 +296,28 @@ fn enter_call(os: &mut LibOs, alloc: Global, upcall: Upcall) -> Result<(), Memor
         BRK => Ok(enter_break(os, alloc, upcall)?),
         EXIT => exit(os, alloc, upcall),
         EXIT_GROUP => end_process(os, alloc, upcall, (registers[A0] % 256) as u8),
+        MUNMAP => {
+            os.cont = Some(munmap_service(alloc, upcall)?);
+            Ok(())
+        }
+        MMAP => {
+            os.cont = Some(mmap_service(alloc, upcall)?);
+            Ok(())
+        }
+        MPROTECT => {
+            os.cont = Some(mprotect_service(alloc, upcall)?);
+            Ok(())
+        }
         number => {
-            let known = known_result(os, &upcall, number);
-            os.cont = Some(memory_service(alloc, upcall, known)?);
+            enter_known(os, alloc, upcall, number);
             Ok(())
         }
     }
 }
 
 /// Begins to serve a system call or a fault.
-fn enter_trap(os: &mut LibOs, alloc: Global, upcall: Upcall) -> Result<(), Memory>
-    ensures { OnOk result (os.new ≡ spec.entered os.old upcall) }
+fn enter_trap(os: &mut LibOs, alloc: Global, upcall: &Upcall) -> Result<(), Memory>
+    ensures { OnOk result (os.new ≡ spec.entered os.old upcall.now) }
 {
     if upcall.cause == SYSTEM_CALL {
         enter_call(os, alloc, upcall)
@@ -380,5 +335,5 @@ pub fn enter(os: &mut LibOs, alloc: Global, upcall: &Upcall) -> Result<(), Memor
     ensures value { OnOk result (os.new ≡ spec.entered os.old upcall.now) }
     ensures turn { OnOk result (EntersTurn os.old upcall.now os.new) }
 {
-    enter_trap(os, alloc, *upcall)
+    enter_trap(os, alloc, upcall)
 }

@@ -5,29 +5,25 @@ ghost use Rattle.mono_model.specs.Mapping as pages;
 ghost use Rattle.libos_state.specs.Answered as answered;
 ghost use Rattle.libos_state.specs.Entered as entered;
 ghost use Rattle.libos_state.specs.Fits.{KeepsPages};
-ghost use Rattle.libos_state.specs.Kept.{HasRights, KeptAt};
-ghost use Rattle.libos_state.specs.Pending as pending;
+ghost use Rattle.libos_state.specs.Kept.{KeptAt};
 ghost use Rattle.libos_state.specs.Pending.{upcall_in, number};
 ghost use Rattle.libos_state.specs.declared.state.LibOs.{LibOs};
 
-use crate::breaking::{is_brk, rights_made};
-use crate::kept::{A0, number_at, upcall_of};
-use crate::program::PAGE;
 use crate::replies::{bare, error, finishing};
-use crate::start_calls::STACK_PAGE;
-use abi_calls::{Call, Reply, Upcall};
+use abi_calls::{Reply, Upcall};
 use bas_items::Items;
+use libos_program::PAGE;
 use libos_state::Step::{Asks, Ends};
-use libos_state::{Cont, Event, Stage, Step};
+use libos_state::{A0, Cont, Event, STACK_PAGE, Stage, Step, is_brk, number_at};
 use rv_core::Context;
 use std::alloc::{AllocError, Global};
 
 /// The numbers of the system calls.
-const MUNMAP: u64 = 215;
+pub const MUNMAP: u64 = 215;
 
-const MMAP: u64 = 222;
+pub const MMAP: u64 = 222;
 
-const MPROTECT: u64 = 226;
+pub const MPROTECT: u64 = 226;
 
 /// Error numbers.
 pub const ENOMEM: u64 = 12;
@@ -123,90 +119,52 @@ pub fn at_pages(
 /// The service of a call on pages: the result that its arguments alone decide, or a stage with these pages.
 fn on_pages(
     alloc: Global,
-    upcall: Upcall,
+    upcall: &Upcall,
     known: Option<u64>,
     stage: Stage,
     page: u64,
     count: u64,
 ) -> Result<Cont, AllocError>
     ensures { IfOk result (λ cont. (os : LibOs)
-        → entered.on_pages os upcall known stage page count ≡ record os { cont = Some cont }) }
+        → entered.on_pages os upcall.now known stage page count ≡ record os { cont = Some cont }) }
 {
     match known {
-        Some(result_in_a0) => Ok(finishing(alloc, Event::Up(upcall), result_in_a0)),
-        None => at_pages(alloc, Event::Up(upcall), stage, page, count),
+        Some(result_in_a0) => Ok(finishing(alloc, Event::Up(*upcall), result_in_a0)),
+        None => at_pages(alloc, Event::Up(*upcall), stage, page, count),
     }
 }
 
-/// The service of a call on pages other than brk, by its number, or of another call, whose result is known.
-pub fn memory_service(alloc: Global, upcall: Upcall, known: u64) -> Result<Cont, AllocError>
-    ensures { IfOk result (λ cont. (os : LibOs) → (register upcall.context 17 == calls.BRK) ≡ false
-        → known ≡ entered.known_result os upcall (register upcall.context 17)
-        → entered.memory_entered os upcall (register upcall.context 17) ≡ record os { cont = Some cont }) }
+/// The service of munmap.
+pub fn munmap_service(alloc: Global, upcall: &Upcall) -> Result<Cont, AllocError>
+    ensures { IfOk result (λ cont. (os : LibOs) → entered.munmap_entered os upcall.now ≡ record os { cont = Some cont }) }
 {
-    let context = upcall.context;
+    let context = &upcall.context;
     let page = context.x[A0] / PAGE;
     let count = pages_for(context.x[A0 + 1]);
-    match context.x[A0 + 7] {
-        MUNMAP => {
-            let known = munmap_known(&context);
-            on_pages(alloc, upcall, known, Stage::FreePages, page, count)
-        }
-        MMAP => {
-            let known = mmap_known(&context);
-            on_pages(
-                alloc,
-                upcall,
-                known,
-                Stage::AllocatePages,
-                FIRST_MAPPED,
-                count,
-            )
-        }
-        MPROTECT => {
-            let known = mprotect_known(&context);
-            on_pages(alloc, upcall, known, Stage::ProtectPages, page, count)
-        }
-        _ => Ok(finishing(alloc, Event::Up(upcall), known)),
-    }
+    let known = munmap_known(context);
+    on_pages(alloc, upcall, known, Stage::FreePages, page, count)
 }
 
-pub fn allocate_pages(cont: &Cont) -> Call
-    requires stage { cont.now.stage ≡ Stage.AllocatePages }
-    requires kept { KeptAt cont.now Stage.AllocatePages }
-    ensures { (os : LibOs) → result ≡ pending.asked os cont.now cont.now.stage }
+/// The service of mmap.
+pub fn mmap_service(alloc: Global, upcall: &Upcall) -> Result<Cont, AllocError>
+    ensures { IfOk result (λ cont. (os : LibOs) → entered.mmap_entered os upcall.now ≡ record os { cont = Some cont }) }
 {
-    Call::MemoryAllocate {
-        process: upcall_of(&cont.event).process,
-        page: number_at(cont.numbers.as_slice(), 0),
-        count: number_at(cont.numbers.as_slice(), 1),
-        rights: rights_made(cont),
-    }
+    let context = &upcall.context;
+    let page = FIRST_MAPPED;
+    let count = pages_for(context.x[A0 + 1]);
+    let known = mmap_known(context);
+    on_pages(alloc, upcall, known, Stage::AllocatePages, page, count)
 }
 
-pub fn free_pages(cont: &Cont) -> Call
-    requires { cont.now.stage ≡ Stage.FreePages }
-    ensures { (os : LibOs) → result ≡ pending.asked os cont.now cont.now.stage }
+/// The service of mprotect.
+pub fn mprotect_service(alloc: Global, upcall: &Upcall) -> Result<Cont, AllocError>
+    ensures { IfOk result (λ cont. (os : LibOs) → entered.mprotect_entered os upcall.now ≡ record os { cont = Some cont }) }
 {
-    Call::MemoryFree {
-        process: upcall_of(&cont.event).process,
-        page: number_at(cont.numbers.as_slice(), 0),
-        count: number_at(cont.numbers.as_slice(), 1),
-    }
-}
-
-pub fn protect_pages(cont: &Cont) -> Call
-    requires stage { cont.now.stage ≡ Stage.ProtectPages }
-    requires rights { HasRights cont.now }
-    ensures { (os : LibOs) → result ≡ pending.asked os cont.now cont.now.stage }
-{
-    let upcall = upcall_of(&cont.event);
-    Call::MemoryProtect {
-        process: upcall.process,
-        page: number_at(cont.numbers.as_slice(), 0),
-        count: number_at(cont.numbers.as_slice(), 1),
-        rights: upcall.context.x[A0 + 2] as u8,
-    }
+    let context = &upcall.context;
+    let page = context.x[A0] / PAGE;
+    let count = pages_for(context.x[A0 + 1]);
+    let known = mprotect_known(context);
+    on_pages(alloc, upcall, known, Stage::ProtectPages, page, count)
 }
 
 /// A page of the run is there: the run from the next page on is tried, if it ends below the stack.

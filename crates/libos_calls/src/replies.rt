@@ -1,4 +1,4 @@
-ghost use Rattle.std.specs.Prelude.{◌≡◌, ◌<◌, false, IfOk, OnOk, IfSome, [], ◌∷◌, drop};
+ghost use Rattle.std.specs.Prelude.{◌≡◌, ◌<◌, true, false, IfOk, OnOk, IfSome, [], ◌∷◌, drop};
 ghost use Rattle.mono_model.specs.Machine as machine;
 ghost use Rattle.mono_model.specs.Calls as calls;
 ghost use Rattle.libos_state.specs.declared.state.LibOs.{LibOs};
@@ -8,12 +8,12 @@ ghost use Rattle.libos_state.specs.Pending.{upcall_in, number};
 ghost use Rattle.libos_state.specs.Fits as fits;
 ghost use Rattle.libos_state.specs.Kept.{IsKept, KeptAt};
 ghost use Rattle.libos_state.specs.Laws.{KeepsMeaning};
+ghost use Rattle.libos_state.specs.Stages.{is_at_end};
 ghost use Rattle.libos_state.specs.declared.step.Change.TheVariants.{Begins};
-ghost use Rattle.libos_calls.specs.Left.{calls_left, IsLengthSmall};
+ghost use Rattle.libos_calls.specs.Left.{calls_left, IsLengthSmall, is_ending};
 
 use crate::breaking::{give_break, move_break, pages_freed};
 use crate::closing::{duplicate, forget_stream, stream_closed};
-use crate::kept::{A0, items_from, upcall_of};
 use crate::mapping::{ENOMEM, pages_changed, pages_made};
 use crate::start_replies::{change_of, is_of_start, start_step};
 use abi_calls::Reply;
@@ -21,7 +21,8 @@ use bas_edge::Memory;
 use bas_items::Items;
 use libos_state::Step::{Asks, Ends, Stops};
 use libos_state::{
-    Boot, Change, Cont, Description, Event, LibOs, ProcessNote, Stage, Step, ThreadNote,
+    A0, Boot, Change, Cont, Description, Event, LibOs, ProcessNote, Stage, Step, ThreadNote,
+    items_from, upcall_of,
 };
 use rv_core::Context;
 use std::alloc::{AllocError, Global};
@@ -38,14 +39,39 @@ pub fn error(number: u64) -> u64
 }
 
 /// The registers behind a system call that gave a result.
-pub fn returned(context: Context, result_in_a0: u64) -> Context
-    ensures { result ≡ machine.returned context result_in_a0 }
+pub fn returned(context: &Context, result_in_a0: u64) -> Context
+    ensures { result ≡ machine.returned context.now result_in_a0 }
 {
     let mut x = context.x;
     x[A0] = result_in_a0;
     Context {
         pc: context.pc.wrapping_add(4),
         x,
+    }
+}
+
+/// A stage at which the thread is to get registers, and that keeps nothing else.
+pub fn getting(alloc: Global, event: Event, stage: Stage, next: Context) -> Cont
+    ensures { result ≡ record {
+      event = event;
+      stage = stage;
+      next = next;
+      names = [];
+      bytes = [];
+      handles = [];
+      later = [];
+      numbers = [];
+    } }
+{
+    Cont {
+        event,
+        stage,
+        next,
+        names: Items::new(alloc),
+        bytes: Items::new(alloc),
+        handles: Items::new(alloc),
+        later: Items::new(alloc),
+        numbers: Items::new(alloc),
     }
 }
 
@@ -63,16 +89,7 @@ pub fn bare(alloc: Global, event: Event, stage: Stage) -> Cont
     } }
 {
     let next = upcall_of(&event).context;
-    Cont {
-        event,
-        stage,
-        next,
-        names: Items::new(alloc),
-        bytes: Items::new(alloc),
-        handles: Items::new(alloc),
-        later: Items::new(alloc),
-        numbers: Items::new(alloc),
-    }
+    getting(alloc, event, stage, next)
 }
 
 /// The service of a system call whose result is known.
@@ -88,10 +105,8 @@ pub fn finishing(alloc: Global, event: Event, result_in_a0: u64) -> Cont
       numbers = [];
     } }
 {
-    let next = returned(upcall_of(&event).context, result_in_a0);
-    let mut cont = bare(alloc, event, Stage::SetContext);
-    cont.next = next;
-    cont
+    let next = returned(&upcall_of(&event).context, result_in_a0);
+    getting(alloc, event, Stage::SetContext, next)
 }
 
 /// The service of a process that ends, with the handles that are still to be closed.
@@ -107,14 +122,6 @@ pub fn closing(alloc: Global, event: Event, handles: Items<u64>, numbers: Items<
     let mut cont = bare(alloc, event, Stage::CloseHandles);
     cont.handles = handles;
     cont.numbers = numbers;
-    cont
-}
-
-/// The thread has its registers, which it keeps.
-fn resuming(mut cont: Cont) -> Cont
-    ensures { result ≡ record cont { stage = Stage.Resume } }
-{
-    cont.stage = Stage::Resume;
     cont
 }
 
@@ -148,14 +155,15 @@ fn buffer_read(alloc: Global, cont: Cont, bytes: Items<u8>) -> Result<Cont, Allo
     Ok(next)
 }
 
-/// What the service of a trap does on a reply: one row for each stage. It keeps the reply's bytes where it needs them.
+/// What the service of a trap does on a reply before its thread gets registers: one row for each stage. It keeps the
+/// reply's bytes where it needs them.
 fn trap_step(alloc: Global, cont: Cont, reply: Reply) -> Result<Step, Memory>
     requires trap { fits.is_of_start cont.stage ≡ false }
+    requires before { is_at_end cont.stage ≡ false }
     requires kept { KeptAt cont cont.stage }
     ensures { IfOk result (λ step. step ≡ spec.next cont cont.stage reply) }
 {
     match (cont.stage, reply) {
-        (Stage::SetContext, Reply::Done) => Ok(Asks(resuming(cont))),
         (Stage::CloseStream, Reply::Done) => Ok(Asks(stream_closed(alloc, cont))),
         (Stage::CloseEvent, reply) => Ok(event_closed(alloc, cont, &reply)),
         (Stage::CloseHandles, Reply::Done) => Ok(Asks(handle_closed(alloc, cont)?)),
@@ -171,9 +179,10 @@ fn trap_step(alloc: Global, cont: Cont, reply: Reply) -> Result<Step, Memory>
     }
 }
 
-/// What a service does on a reply.
+/// What a service does on a reply before its thread gets registers.
 fn step_of(alloc: Global, cont: Cont, reply: Reply) -> Result<Step, Memory>
-    requires { KeptAt cont cont.stage }
+    requires before { is_at_end cont.stage ≡ false }
+    requires kept { KeptAt cont cont.stage }
     ensures value { IfOk result (λ step. step ≡ spec.next cont cont.stage reply) }
     ensures small { OnOk result (cont.stage ≡ Stage.ProgramLength → IsLengthSmall reply) }
 {
@@ -243,10 +252,11 @@ fn take_step(os: &mut LibOs, alloc: Global, step: Step)
     }
 }
 
-/// Takes the reply to the pending call, a stage at a time.
+/// Takes the reply to a call before the thread gets registers, a stage at a time.
 #[tactic(auto, using(crate::proofs::Steps::step_rules))]
-fn take_reply(os: &mut LibOs, alloc: Global, reply: Reply) -> Result<(), Memory>
-    requires { IsKept os.old }
+fn take_before(os: &mut LibOs, alloc: Global, reply: Reply) -> Result<(), Memory>
+    requires before { IfSome os.old.cont (λ c. is_at_end c.stage ≡ false) }
+    requires kept { IsKept os.old }
     ensures value { OnOk result (os.new ≡ spec.answered os.old reply) }
     ensures small { OnOk result (IfSome os.old.cont
         (λ c. c.stage ≡ Stage.ProgramLength → IsLengthSmall reply)) }
@@ -259,6 +269,43 @@ fn take_reply(os: &mut LibOs, alloc: Global, reply: Reply) -> Result<(), Memory>
     change_records(os, alloc, change)?;
     take_step(os, alloc, step);
     Ok(())
+}
+
+/// Whether the service in progress gives its thread registers, or makes it ready.
+fn is_ending(os: &LibOs) -> bool
+    ensures { result ≡ is_ending os.now.cont }
+{
+    match &os.cont {
+        Some(cont) => matches!(cont.stage, Stage::SetContext | Stage::Resume),
+        None => false,
+    }
+}
+
+/// The thread has its registers, or is ready: the service goes on where it stands, or ends.
+fn take_at_end(os: &mut LibOs, reply: &Reply)
+    requires { is_ending os.old.cont ≡ true }
+    ensures { os.new ≡ spec.answered os.old reply.now }
+{
+    match &mut os.cont {
+        Some(cont) if cont.stage == Stage::SetContext && matches!(reply, Reply::Done) => {
+            cont.stage = Stage::Resume;
+        }
+        _ => os.cont = None,
+    }
+}
+
+/// Takes the reply to the pending call, a stage at a time.
+fn take_reply(os: &mut LibOs, alloc: Global, reply: Reply) -> Result<(), Memory>
+    requires { IsKept os.old }
+    ensures value { OnOk result (os.new ≡ spec.answered os.old reply) }
+    ensures small { OnOk result (IfSome os.old.cont
+        (λ c. c.stage ≡ Stage.ProgramLength → IsLengthSmall reply)) }
+{
+    if is_ending(os) {
+        take_at_end(os, &reply);
+        return Ok(());
+    }
+    take_before(os, alloc, reply)
 }
 
 /// Takes the reply to the pending call: the library OS stands for the same machine, and is nearer to the end of the

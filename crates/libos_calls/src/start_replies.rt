@@ -10,17 +10,15 @@ ghost use Rattle.libos_state.specs.Kept.{KeptAt};
 ghost use Rattle.libos_calls.specs.Left.{IsLengthSmall};
 
 use crate::breaking::break_change;
-use crate::calls::PIECE;
 use crate::closing::change_of_stream;
-use crate::kept::{first_items, number_at};
-use crate::program::{PAGE, count_of_runs, end_of, refusal_of};
-use crate::start_calls::run_in;
 use abi_calls::Reply;
 use bas_edge::Memory;
 use bas_items::Items;
+use libos_program::{PAGE, count_of_runs, end_of, refusal_of};
 use libos_state::Step::{Asks, Ends, Stops};
 use libos_state::{
-    Boot, Change, Cont, Description, DescriptorNote, Kind, ProcessNote, Stage, Step, ThreadNote,
+    Boot, Change, Cont, Description, DescriptorNote, Kind, PIECE, ProcessNote, Stage, Step,
+    ThreadNote, first_items, number_at, run_in,
 };
 use std::alloc::{AllocError, Global};
 

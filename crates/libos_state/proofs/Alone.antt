@@ -31,7 +31,8 @@ use Rattle.libos_state.specs.Records.{process_named, process_with, thread_named}
 use Rattle.libos_state.specs.Pending.{upcall_in, number, is_brk, program_name, arguments, runs_in, run_in}
 use Rattle.libos_state.specs.Named.{consoles, kinds_at}
 use Rattle.libos_state.specs.Fits.{Fits, FitsCont, FitsBoot, FitsEvent, FitsNone, FitsRecords, are_distinct, is_given, is_fit_process, is_alive, is_described, is_fit_access, KeepsLists, HasHandles, FitsNames, AreNames, KeepsCode, KeepsPages, KeepsMade, KeepsSize, KeepsRun, KeepsPlace, FitsKept, is_none, keeps_next, keeps_names, keeps_bytes, numbers_at, is_ended_with, is_fit_parent, is_fit_append, LAST_ID, closes_new}
-use Rattle.libos_state.specs.Alone.{fits_records, has_first, HasNoRecords, has_no_records, FitsProgress, fits_progress, serves_in, FitsAlone, fits_alone, event_comes_to, FitsService, is_same_context, has_handles, keeps_lists, fits_names, are_names, keeps_code, keeps_pages, keeps_made, keeps_size, keeps_run, keeps_place, is_zero_alone, fits_kept, fits_service, FitsServices, IsAtEvent, HasConsoles, FitsSettledObjects, FitsWorld}
+use Rattle.libos_state.specs.Alone.{fits_records, has_handles_once, has_first, HasNoRecords, has_no_records, FitsProgress, fits_progress, serves_in, FitsAlone, fits_alone, event_comes_to, FitsService, is_same_context, has_handles, keeps_lists, fits_names, are_names, keeps_code, keeps_pages, keeps_made, keeps_size, keeps_run, keeps_place, is_zero_alone, fits_kept, fits_service, FitsServices, IsAtEvent, HasConsoles, FitsSettledObjects, FitsWorld}
+use Rattle.libos_state.proofs.Once.{has_handles_once-fits, has_handles_once-none, has_handles_once-served}
 
 -- ---- tests and what they tell
 
@@ -89,9 +90,10 @@ Decides-fits_progress os (boot.BadProgram cause) = Decides-has_no_records os
 
 pub alone_decides : (os : LibOs) → Decides (fits_alone os) (FitsAlone os)
 alone_decides os = Decides-like (fits_alone os)
-    (λ p. record { records = p.0; progress = p.1.0; serves = p.1.1 })
-    (λ (r : FitsAlone os). (r.records, (r.progress, r.serves)))
-    (Decides-and (fits_records os) _ (Decides-fits_records os) (Decides-and (fits_progress os os.boot) _ (Decides-fits_progress os os.boot) (is_true _)))
+    (λ p. record { records = p.0; handles = p.1.0; progress = p.1.1.0; serves = p.1.1.1 })
+    (λ (r : FitsAlone os). (r.records, (r.handles, (r.progress, r.serves))))
+    (Decides-and (fits_records os) _ (Decides-fits_records os) (Decides-and (has_handles_once os) _ (is_true _)
+    (Decides-and (fits_progress os os.boot) _ (Decides-fits_progress os os.boot) (is_true _))))
 
 -- ---- a service in progress
 
@@ -292,6 +294,12 @@ module _ (os : LibOs) (o : Objects) where
     current = current;
   }
 
+  settled_once : (b : Boot) → FitsBoot os o b → has_handles_once os ≡ true
+  settled_once boot.Up fits = has_handles_once-fits os o [] None fits.objects
+  settled_once boot.NoProgram fits = has_handles_once-none os (none_cut fits).0
+  settled_once (boot.BadProgram cause) fits = has_handles_once-none os (none_cut fits).0
+  settled_once boot.Going fits = absurd fits
+
   settled_cut : (b : Boot) → FitsBoot os o b → Settled b
   settled_cut boot.Up fits = (fits.records, fits.first, refl, fits.objects, fits.current)
   settled_cut boot.NoProgram fits = let cut = none_cut fits in (no_records_fit os cut.0, cut.0, refl, cut.1, fits.current)
@@ -310,10 +318,10 @@ module _ (os : LibOs) (o : Objects) where
   cut_at : (cont : Option Cont) → os.cont ≡ cont → FitsCont os o cont → Parts cont
   cut_at None is fits =
       let s = settled_cut os.boot fits in
-      (record { records = s.0; progress = s.1; serves = ap (λ (x : Option Cont). serves_in os.boot (option_map (λ c. c.event) x)) is ∙ s.2 }, tt, (s.3, s.4))
+      (record { records = s.0; handles = settled_once os.boot fits; progress = s.1; serves = ap (λ (x : Option Cont). serves_in os.boot (option_map (λ c. c.event) x)) is ∙ s.2 }, tt, (s.3, s.4))
   cut_at (Some c) is fits =
       let e = event_cut c.event c.stage fits.event in (
-        record { records = fits.records; progress = e.0; serves = ap (λ (x : Option Cont). serves_in os.boot (option_map (λ j. j.event) x)) is ∙ e.1 },
+        record { records = fits.records; handles = has_handles_once-served os o c c.stage fits; progress = e.0; serves = ap (λ (x : Option Cont). serves_in os.boot (option_map (λ j. j.event) x)) is ∙ e.1 },
         record { comes = e.2; lists = fits.lists; names = fits.names; kept = fits.kept },
         (fits.objects, e.3, fits.made),
       )

@@ -1,5 +1,5 @@
 -- The caller of a system call: the process of its thread, and its memory.
-use Rattle.std.specs.Prelude.{◌≡◌, ℕ}
+use Rattle.std.specs.Prelude.{◌≡◌}
 use Rattle.std.specs.declared.option.Option.TheVariants.{Some}
 use Rattle.std.proofs.Common.{ap, ◌∙◌}
 use Rattle.abi_calls.specs.declared.threads.Upcall.{Upcall}

@@ -9,7 +9,7 @@ use Rattle.std.proofs.lemmas.Bool.{cond-true, and_parts, and_from}
 use Rattle.std.proofs.lemmas.List.Sums.{sum_by-append}
 use Rattle.std.proofs.lemmas.List.Folds as folds
 use Rattle.std.proofs.lemmas.List.Folds.{list_all-append}
-use Rattle.turn_sched.proofs.ThreadLists.{list_all-filter, list_all-map}
+use Rattle.turn_sched.proofs.ThreadLists.{list_all-filter, list_all-map, list_all-weaker}
 use Rattle.abi_calls.specs.declared.object.Object.TheVariants.{Process, Thread, Event, Stream, ReadEnd, WriteEnd}
 use Rattle.abi_calls.specs.declared.threads.Upcall.{Upcall}
 use Rattle.abi_calls.specs.Objects.{Object, Objects, object_at, running, is_thread_of}
@@ -19,12 +19,13 @@ use Rattle.libos_state.specs.declared.notes.ProcessNote.{ProcessNote}
 use Rattle.libos_state.specs.declared.notes.ThreadNote.{ThreadNote}
 use Rattle.libos_state.specs.declared.state.LibOs.{LibOs}
 use Rattle.libos_state.specs.Records.{process_named, process_with, thread_with, pid_of, pid_with}
-use Rattle.libos_state.specs.Entered.{is_open_without, handles_of, note_ended, without_process}
+use Rattle.libos_state.specs.Entered.{is_open_without, opened_alone, streams_behind, handles_of, note_ended, without_process}
 use Rattle.libos_state.specs.Named.{Named, AProcess, AThread, AnEvent, AConsole, ToClose, is_of, recorded, times_named}
 use Rattle.libos_state.specs.Fits.{FitsRecords, FitsObjects, is_to_name, is_code, has_code, handle_in, is_home}
 use Rattle.libos_state.proofs.Distinct.{some_of, find-key}
 use Rattle.libos_state.proofs.Naming.{is_named, find-passes, count_by-cons, count_by-found, list_all-except, times_named-append, times_named-map, times_named-recorded, times_recorded-most, KindsRecorded, kinds-lists, Linked, linked-found, Trapped, thread_of}
 use Rattle.libos_state.proofs.Filtered.{count_by-distinct}
+use Rattle.libos_state.proofs.OpenedAlone.{count_by-opened_alone, list_all-streams_behind}
 use Rattle.libos_state.proofs.LeftRecords.{note_ended-handle, note_ended-other, process_named-ended}
 use Rattle.libos_state.proofs.Waking.{thread_recorded}
 use Rattle.libos_state.proofs.Ending.{to_close, unnamed, named_alike}
@@ -193,15 +194,15 @@ module _ (os : LibOs) (o : Objects) (u : Upcall) (at : Trapped os o u) (code : �
   -- all is named as often, but for the threads that end
   times-ended : (q : ℕ) → times_after q + gone q ≡ times q
   times-ended q =
-      let closed : List Description = filter (λ d. not (is_open_without os p d.id)) os.descriptions in
       let ended : List ThreadNote = filter (λ n. n.pid == p) os.threads in
       omega (
         arith,
         times_named-append q (recorded after) (to_close (handles_of os p)),
         times_named-recorded q after,
         times_named-map q (λ (x : ℕ). x) (λ x. ToClose) (handles_of os p),
-        count_by-append (λ (x : ℕ). x == q) (map (λ d. d.handle) closed) (map (λ n. n.event) ended),
-        count_by-map (λ (d : Description). d.handle) (λ x. x == q) closed,
+        count_by-append (λ (x : ℕ). x == q) (streams_behind os.descriptions (opened_alone os p)) (map (λ n. n.event) ended),
+        count_by-opened_alone os p process records.pids process_there q records.ids records.described,
+        count_by-filter (λ (d : Description). not (is_open_without os p d.id)) (λ d. d.handle == q) os.descriptions,
         count_by-map (λ (n : ThreadNote). n.event) (λ x. x == q) ended,
         count_by-map (note_ended p code) (λ (n : ProcessNote). n.handle == q) os.processes,
         count_by-same (λ (n : ProcessNote). (note_ended p code n).handle == q) (λ n. n.handle == q) (λ n. ap (λ k. k == q) (note_ended-handle p code n)) os.processes,
@@ -232,7 +233,7 @@ module _ (os : LibOs) (o : Objects) (u : Upcall) (at : Trapped os o u) (code : �
       let ps = after.processes in
       let ts = after.threads in
       let ds = after.descriptions in
-      let closed : List Description = filter (λ d. not (is_open_without os p d.id)) os.descriptions in
+      let streams : List ℕ = streams_behind os.descriptions (opened_alone os p) in
       let ended : List ThreadNote = filter (λ n. n.pid == p) os.threads in
       let all : List Named → Type 0 = λ names. list_all test names ≡ true in
       let join : (xs ys : List Named) → all xs → all ys → all (xs ++ ys) = λ xs ys first second. list_all-append test xs ys ∙ and_from (list_all test xs) (list_all test ys) first second in
@@ -246,13 +247,13 @@ module _ (os : LibOs) (o : Objects) (u : Upcall) (at : Trapped os o u) (code : �
       let descriptions : all (map (λ d. (d.handle, AConsole d.kind)) ds) = folds.list_all-map test (λ (d : Description). (d.handle, AConsole d.kind)) ds
       ∙ list_all-filter (λ (d : Description). is_open_without os p d.id) (λ d. is_of (AConsole d.kind) (object_at o d.handle)) (λ d. is_of (AConsole d.kind) (object_at o d.handle)) (λ d keeps is. is) os.descriptions kinds.descriptions in
       let closes : ℕ → Bool = λ k. is_of ToClose (object_at o k) in
-      let first : list_all closes (map (λ (d : Description). d.handle) closed) ≡ true = folds.list_all-map closes (λ (d : Description). d.handle) closed
-      ∙ list_all-filter (λ (d : Description). not (is_open_without os p d.id)) (λ d. is_of (AConsole d.kind) (object_at o d.handle)) (λ d. closes d.handle) (λ d keeps is. console_closable d.kind (object_at o d.handle) is) os.descriptions kinds.descriptions in
+      let first : list_all closes streams ≡ true = list_all-streams_behind closes os.descriptions (opened_alone os p)
+      (list_all-weaker (λ (d : Description). is_of (AConsole d.kind) (object_at o d.handle)) (λ d. closes d.handle) (λ d is. console_closable d.kind (object_at o d.handle) is) os.descriptions kinds.descriptions) in
       let second : list_all closes (map (λ (n : ThreadNote). n.event) ended) ≡ true = folds.list_all-map closes (λ (n : ThreadNote). n.event) ended
       ∙ list_all-filter (λ (n : ThreadNote). n.pid == p) (λ n. is_of AnEvent (object_at o n.event)) (λ n. closes n.event) (λ n keeps is. event_closable (object_at o n.event) is) os.threads kinds.events in
       let handles : all (to_close (handles_of os p)) = folds.list_all-map test (λ k. (k, ToClose)) (handles_of os p)
-      ∙ list_all-append closes (map (λ (d : Description). d.handle) closed) (map (λ (n : ThreadNote). n.event) ended)
-      ∙ and_from (list_all closes (map (λ (d : Description). d.handle) closed)) (list_all closes (map (λ (n : ThreadNote). n.event) ended)) first second in
+      ∙ list_all-append closes streams (map (λ (n : ThreadNote). n.event) ended)
+      ∙ and_from (list_all closes streams) (list_all closes (map (λ (n : ThreadNote). n.event) ended)) first second in
       join (recorded after) (to_close (handles_of os p))
       (join (map (λ n. (n.handle, AProcess)) ps) (map (λ n. (n.handle, AThread)) ts ++ (map (λ n. (n.event, AnEvent)) ts ++ map (λ d. (d.handle, AConsole d.kind)) ds)) processes
       (join (map (λ n. (n.handle, AThread)) ts) (map (λ n. (n.event, AnEvent)) ts ++ map (λ d. (d.handle, AConsole d.kind)) ds) threads

@@ -13,12 +13,13 @@ use Rattle.elf_loader.specs.Segments.{any_below, union_below, max_below, meets, 
 use Rattle.elf_loader.specs.Refusal.{file_refusal, is_misplaced, leaves_file, meets_earlier, lone_refusal, header_refusal, header_refusals, pages, program_refusal, refusal}
 use Rattle.elf_loader.specs.Image.{extent_of, layout_of}
 use Rattle.elf_loader.proofs.ImageLaws.{without_bytes-program_of}
+use Rattle.libos_program.specs.Runs.{no_run}
 use Rattle.libos_state.specs.declared.cont.Cont.{Cont}
 use Rattle.libos_state.specs.declared.cont.Stage.TheVariants.{AllocateRun, ProtectRun, AllocateStack}
 use Rattle.libos_state.specs.declared.state.LibOs.{LibOs}
 use Rattle.libos_state.specs.declared.step.Step.{Step}
 use Rattle.libos_state.specs.declared.step.Step.TheVariants.{Asks}
-use Rattle.libos_state.specs.Pending.{asked, file_or_child, runs_in, run_in, no_run}
+use Rattle.libos_state.specs.Pending.{asked, file_or_child, runs_in, run_in}
 use Rattle.libos_state.specs.Answered.{next, starting}
 use Rattle.libos_state.specs.Fits.{extents_in}
 use Rattle.libos_state.proofs.Programs.{run_extent}

@@ -7,6 +7,7 @@ pub mod Breaking
 pub mod Breaks
 pub mod Callers
 pub mod Closing
+pub mod Deciding
 pub mod DescriptorBases
 pub mod DescriptorCalls
 pub mod Descriptors
@@ -26,6 +27,9 @@ pub mod Loading
 pub mod Making
 pub mod Mapping
 pub mod Naming
+pub mod Numbers
+pub mod Once
+pub mod OpenedAlone
 pub mod Opening
 pub mod Pages
 pub mod Pieces
@@ -33,6 +37,7 @@ pub mod Programs
 pub mod Reading
 pub mod Resuming
 pub mod Rows
+pub mod RunPieces
 pub mod Serving
 pub mod Stacking
 pub mod Stages

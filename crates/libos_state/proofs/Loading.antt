@@ -1,12 +1,11 @@
 -- The program's pages are made, filled and given their rights.
-use Rattle.std.specs.Prelude.{◌≡◌, ℕ, ◌+◌, ◌-◌, ◌*◌, ◌^◌, ◌≤◌, ◌<◌, Bool, true, false, ◌==◌, ◌&&◌, if◌then◌else◌, nat_lt, List, [], ◌∷◌, length, take, drop}
+use Rattle.std.specs.Prelude.{◌≡◌, ℕ, ◌+◌, ◌-◌, ◌*◌, ◌≤◌, ◌<◌, Bool, true, false, ◌==◌, if◌then◌else◌, nat_lt, List, [], ◌∷◌, length, take, drop}
 use Rattle.std.specs.FinMap.{len}
 use Rattle.std.specs.declared.option.Option.TheVariants.{None, Some}
-use Rattle.std.proofs.Common.{true≢false, refl, sym, ap, ◌∙◌, subst, arith, ltb-true, ltb-false, le-leb, le-ltb, lt-ltb, ne_eqb, drop-drop, length-drop, length-take}
+use Rattle.std.proofs.Common.{true≢false, refl, sym, ap, ◌∙◌, subst, arith, ltb-true, ltb-false, le-ltb, ne_eqb, drop-drop, length-drop, length-take}
 use Rattle.std.proofs.lemmas.List.{take_all, drop_all, drop_more, length-map}
 use Rattle.guest_space.specs.declared.Extent.{Extent}
 use Rattle.guest_space.specs.Space.{Space, with_run}
-use Rattle.guest_space.specs.Run.{is_run}
 use Rattle.guest_space.proofs.Filling.{filled, filled-append, first_held-none, first_missing-none, first_fault-none}
 use Rattle.abi_calls.specs.declared.object.Object.TheVariants.{Process}
 use Rattle.abi_calls.specs.declared.reply.Reply.{Reply}
@@ -18,11 +17,12 @@ use Rattle.bas_items.proofs.NumberMaps.{get-insert-same}
 use Rattle.elf_loader.specs.declared.Run.{Run}
 use Rattle.elf_loader.specs.Image.{extent_of, page_count}
 use Rattle.mono_model.specs.Starting.{loaded, filled_from, with_rights_of, stacked}
+use Rattle.libos_program.specs.Runs.{no_run}
 use Rattle.libos_state.specs.declared.cont.Cont.{Cont}
 use Rattle.libos_state.specs.declared.cont.Stage.TheVariants.{AllocateRun, WriteRun, ProtectRun, AllocateStack}
 use Rattle.libos_state.specs.declared.state.LibOs.{LibOs}
 use Rattle.libos_state.specs.Records.{View, visible, with_visible, memory_of_object}
-use Rattle.libos_state.specs.Pending.{number, arguments, asked, file_or_child, runs_in, run_in, no_run, run_piece, PIECE}
+use Rattle.libos_state.specs.Pending.{number, arguments, asked, file_or_child, runs_in, run_in, run_piece, PIECE}
 use Rattle.libos_state.specs.Answered.{goes_on, starting}
 use Rattle.libos_state.specs.Meaning.{Meaning, settles, begins_with, child_memory, with_runs_behind, meant_at}
 use Rattle.libos_state.specs.Named.{kept_names}

@@ -28,16 +28,13 @@ use Rattle.elf_loader.specs.Image.{AreWhole, FitsProcess, IsRunOfProcess, extent
 use Rattle.elf_loader.proofs.Below.{any_below-at, union_below-has}
 use Rattle.elf_loader.proofs.ImageLaws.{AreWhole-with_bytes, FitsProcess-accepted, IsLayout-layout_of, without_bytes-program_of}
 use Rattle.elf_loader.proofs.Refusals.{program_refusal-entry, program_refusal-parts, refusal-parts}
+use Rattle.libos_program.specs.Runs.{no_run}
+use Rattle.libos_program.proofs.Each.{each_at}
 use Rattle.libos_state.specs.declared.cont.Cont.{Cont}
-use Rattle.libos_state.specs.Pending.{number, program_in, runs_in, run_in, no_run}
+use Rattle.libos_state.specs.Pending.{number, program_in, runs_in, run_in}
 use Rattle.libos_state.specs.Fits.{HasPages, KeepsProgram, KeepsRun, extents_in, extents_before}
 
 -- ---- extents that rise
-
-pub each_at : {X : Type 0} (P : X → Type 0) (xs : List X) (k : ℕ) (d : X) → AllByRecursion P xs → k < length xs → P (get_or xs k d)
-each_at P [] k d all within = absurd (omega arith)
-each_at P (x ∷ xs) zero d all within = all.0
-each_at P (x ∷ xs) (suc k) d all within = each_at P xs k d all.1 (omega arith)
 
 -- An extent has pages, and ends at the latest where one behind it begins.
 some_at : (es : List Extent) (k : ℕ) (d : Extent) → AreMaximal es → k < length es → 1 ≤ (get_or es k d).count

@@ -11,12 +11,12 @@ use Rattle.libos_state.specs.declared.cont.Cont.{Cont}
 use Rattle.libos_state.specs.declared.cont.Event.{Event}
 use Rattle.libos_state.specs.declared.cont.Event.TheVariants as event
 use Rattle.libos_state.specs.declared.cont.Stage.{Stage}
-use Rattle.libos_state.specs.declared.cont.Stage.TheVariants.{SetContext, CloseStream, CloseHandles}
+use Rattle.libos_state.specs.declared.cont.Stage.TheVariants.{SetContext, CloseStream}
 use Rattle.libos_state.specs.declared.state.LibOs.{LibOs}
 use Rattle.libos_state.specs.Pending.{upcall_in}
-use Rattle.libos_state.specs.Named.{Named, named_as, kept_names, ToClose, kinds_at, closed_name}
+use Rattle.libos_state.specs.Named.{Named, named_as, kept_names}
 use Rattle.libos_state.specs.Answered.{bare, goes_on, service_with_result}
-use Rattle.libos_state.specs.Fits.{FitsRecords, FitsObjects, FitsStage, FitsEvent, FitsTrap, FitsKept, FitsMade, AreNames, HasHandles, ending_at, keeps_names, numbers_at, comes_to, is_of_start, is_recorded, returns, is_exit_call, counted, is_call}
+use Rattle.libos_state.specs.Fits.{FitsRecords, FitsObjects, FitsStage, FitsEvent, FitsTrap, FitsKept, FitsMade, AreNames, HasHandles, ending_at, keeps_names, numbers_at, comes_to, is_of_start, is_recorded, returns, is_exit_call, counted}
 use Rattle.libos_state.proofs.Going.{with_service, FitsRecords-with_service, FitsObjects-with_service}
 
 -- The event of a stage that starts nothing is a trap.

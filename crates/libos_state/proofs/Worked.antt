@@ -37,7 +37,7 @@ use Rattle.libos_state.specs.Records.{process_named, no_context}
 use Rattle.libos_state.specs.Breaks.{with_break}
 use Rattle.libos_state.specs.Pending.{asked}
 use Rattle.libos_state.specs.Answered.{answered_at, gives_break, goes_on, service_with_result, bare, service_leaving}
-use Rattle.libos_state.specs.Entered.{entered, result_of, entered_with, has_other_thread, ends_process}
+use Rattle.libos_state.specs.Entered.{entered, handles_of, result_of, entered_with, has_other_thread, ends_process}
 use Rattle.libos_state.specs.Alone.{fits_alone, fits_service}
 use Rattle.libos_state.proofs.Alone.{Decides-fits_records}
 use Rattle.libos_state.proofs.Distinct.{find-absent, contains-map}
@@ -259,10 +259,10 @@ module _ (settings : Settings) (positions : Positions) (memory : Space) (context
   recorded_start_unfit : fits_alone (record worked { boot = NoProgram }) ≡ false
   recorded_start_unfit = refl
 
-  -- A handle that stands twice is a matter of the objects.
-  twice_alone : fits_alone twice ≡ true
+  -- Records in which a handle stands twice fit nothing.
+  twice_unfit : fits_alone twice ≡ false
   unfolding twice
-  twice_alone = refl
+  twice_unfit = refl
 
   -- With descriptor 1 closed in its place the description stays open, as the second process has it.
   shared : LibOs
@@ -353,6 +353,17 @@ module _ (settings : Settings) (positions : Positions) (memory : Space) (context
 
   exit_of_the_last : entered worked (calls 12 14 93) ≡ ends_process worked (calls 12 14 93) 0
   exit_of_the_last = refl
+
+  -- A process that has three descriptions open by its descriptors 0, 1, 2 and 5 closes the streams of 3, 1 and 2 in this order, each once,
+  -- and then its threads' events. What another process has open stays.
+  abbrev four_descriptors : ProcessNote
+  four_descriptors = record first_process { descriptors = descriptor 0 3 ∷ descriptor 1 1 ∷ descriptor 2 3 ∷ descriptor 5 2 ∷ [] }
+
+  closes_in_order : handles_of (with_records (four_descriptors ∷ []) three_threads) 1 ≡ 21 ∷ 19 ∷ 20 ∷ 16 ∷ 18 ∷ []
+  closes_in_order = refl
+
+  closes_its_own : handles_of (with_records (four_descriptors ∷ second_process ∷ []) three_threads) 1 ≡ 21 ∷ 19 ∷ 16 ∷ 18 ∷ []
+  closes_its_own = refl
 
   -- The service keeps the event alone, and then nothing. exit_group comes to neither stage.
   abbrev leaves : ℕ → List ℕ → Cont

@@ -1,6 +1,6 @@
 -- What fits by itself: the library OS, and a service in progress; each with a test beside it, which
 -- looks at no world. What joins them to the objects of a world stands apart.
-use Rattle.std.specs.Prelude.{◌≡◌, ℕ, ◌+◌, ◌==◌, Bool, true, false, not, ◌&&◌, ◌||◌, List, [], ◌∷◌, map, length, is_some, nat_le, nat_lt}
+use Rattle.std.specs.Prelude.{◌≡◌, ℕ, ◌+◌, ◌==◌, Bool, true, false, not, ◌&&◌, ◌||◌, List, [], ◌∷◌, ◌++◌, map, length, is_some, nat_le, nat_lt}
 use Rattle.std.specs.List.{list_all}
 use Rattle.std.specs.Option.{option_map}
 use Rattle.std.specs.Str.{bytes_eq}
@@ -47,6 +47,18 @@ fits_records os =
     && (are_distinct (map (λ q. q.tid) os.queue)
     && nat_le os.next_id LAST_ID))))))))))))
 
+-- The handles of the records: those of processes, threads, their events, and open descriptions.
+abbrev pub handles_recorded : LibOs → List ℕ
+handles_recorded os =
+    map (λ n. n.handle) os.processes ++
+    (map (λ n. n.handle) os.threads ++
+    (map (λ n. n.event) os.threads ++
+    map (λ d. d.handle) os.descriptions))
+
+-- No handle stands twice in the records.
+abbrev pub has_handles_once : LibOs → Bool
+has_handles_once os = are_distinct (handles_recorded os)
+
 -- Process 1 has a record.
 abbrev pub has_first : LibOs → Bool
 has_first os = is_some (process_named 1 os.processes)
@@ -89,6 +101,7 @@ serves_in _ _ = false
 -- The library OS fits by itself.
 pub record FitsAlone (os : LibOs) : Type 0 where
   pub records : FitsRecords os
+  pub handles : has_handles_once os ≡ true
   pub progress : FitsProgress os os.boot
   pub serves : serves_in os.boot (option_map (λ c. c.event) os.cont) ≡ true
 
@@ -96,7 +109,8 @@ pub record FitsAlone (os : LibOs) : Type 0 where
 abbrev pub fits_alone : LibOs → Bool
 fits_alone os =
     fits_records os
-    && (fits_progress os os.boot && serves_in os.boot (option_map (λ c. c.event) os.cont))
+    && (has_handles_once os
+    && (fits_progress os os.boot && serves_in os.boot (option_map (λ c. c.event) os.cont)))
 
 -- ---- a service in progress
 

@@ -1,8 +1,10 @@
 -- How a service begins: with a trap, or with the start of a run.
-use Rattle.std.specs.Prelude.{ℕ, ◌/◌, ◌%◌, ◌==◌, Bool, not, ◌&&◌, if◌then◌else◌, List, [], ◌∷◌, ◌++◌, map, filter, bit_and, nat_lt, is_some, replicate, false}
+use Rattle.std.specs.Prelude.{ℕ, ◌/◌, ◌%◌, ◌==◌, Bool, not, ◌&&◌, if◌then◌else◌, List, [], ◌∷◌, ◌++◌, map, filter, filter_map, bit_and, nat_lt, is_some, replicate, false}
 use Rattle.std.specs.List.{list_any}
+use Rattle.std.specs.Option.{option_map}
 use Rattle.std.specs.declared.option.Option.{Option}
 use Rattle.std.specs.declared.option.Option.TheVariants.{None, Some}
+use Rattle.turn_sched.specs.Lists.{without}
 use Rattle.turn_sched.specs.declared.settings.Settings.{Settings}
 use Rattle.abi_calls.specs.declared.threads.Upcall.{Upcall}
 use Rattle.mono_model.specs.Machine.{register, returned}
@@ -22,7 +24,7 @@ use Rattle.libos_state.specs.declared.notes.ProcessNote.{ProcessNote}
 use Rattle.libos_state.specs.declared.notes.ThreadNote.{ThreadNote}
 use Rattle.libos_state.specs.declared.state.Boot.TheVariants.{Going}
 use Rattle.libos_state.specs.declared.state.LibOs.{LibOs}
-use Rattle.libos_state.specs.Records.{process_with, thread_named, thread_with, description_behind, pid_with, tid_of, tid_with, event_in, descriptor_named}
+use Rattle.libos_state.specs.Records.{process_named, process_with, thread_named, thread_with, description_named, description_behind, pid_with, tid_with, event_in, descriptor_named}
 use Rattle.libos_state.specs.Breaks.{break_goes, with_break}
 use Rattle.libos_state.specs.Answered.{goes_on, gives_break, service_with_result, service_closing, service_leaving, bare}
 use Rattle.libos_state.specs.Descriptors.{without_descriptor, with_descriptor}
@@ -61,11 +63,34 @@ names_description p id n = not (n.pid == p) && list_any (λ d. d.description == 
 abbrev pub is_open_without : LibOs → ℕ → ℕ → Bool
 is_open_without os p id = list_any (names_description p id) os.processes
 
--- What ends with process p: the handles of the descriptions that it alone has open, and those of
--- its threads' events.
+-- The descriptors of a process, or none.
+abbrev pub descriptors_in : Option ProcessNote → List DescriptorNote
+descriptors_in None = []
+descriptors_in (Some n) = n.descriptors
+
+-- The ids, each once, where it stands first.
+abbrev pub each_once : List ℕ → List ℕ
+each_once [] = []
+each_once (id ∷ ids) = id ∷ without (each_once ids) id
+
+-- The ids of the descriptions that process p alone has open, in the order of its descriptors.
+abbrev pub opened_alone : LibOs → ℕ → List ℕ
+opened_alone os p =
+    filter (λ id. not (is_open_without os p id))
+    (each_once (map (λ d. d.description) (descriptors_in (process_named p os.processes))))
+
+-- The handle of a description's stream.
+abbrev pub stream_behind : List Description → ℕ → Option ℕ
+stream_behind descriptions id = option_map (λ d. d.handle) (description_named id descriptions)
+
+abbrev pub streams_behind : List Description → List ℕ → List ℕ
+streams_behind descriptions ids = filter_map (stream_behind descriptions) ids
+
+-- What ends with process p: the streams of the descriptions that it alone has open, in the order of
+-- its descriptors, and then its threads' events.
 abbrev pub handles_of : LibOs → ℕ → List ℕ
 handles_of os p =
-    map (λ d. d.handle) (filter (λ d. not (is_open_without os p d.id)) os.descriptions)
+    streams_behind os.descriptions (opened_alone os p)
     ++ map (λ n. n.event) (filter (λ n. n.pid == p) os.threads)
 
 -- The record of a process that ends gets its code, and has no descriptors.
@@ -195,10 +220,6 @@ close_entered os u (Some d) =
     else result_of (without_descriptor os p fd) u 0
 
 -- dup: the least free descriptor names the description too.
-abbrev pub descriptors_in : Option ProcessNote → List DescriptorNote
-descriptors_in None = []
-descriptors_in (Some n) = n.descriptors
-
 abbrev pub if_free_descriptor : List DescriptorNote → ℕ → Option ℕ
 if_free_descriptor descriptors fd =
     if is_some (descriptor_named fd descriptors) then None else Some fd

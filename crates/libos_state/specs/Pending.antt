@@ -13,6 +13,7 @@ use Rattle.mono_model.specs.Calls.{BRK, moved}
 use Rattle.elf_loader.specs.declared.Program.{Program}
 use Rattle.elf_loader.specs.declared.Run.{Run}
 use Rattle.elf_loader.specs.Image.{page_count, program_of}
+use Rattle.libos_program.specs.Runs.{no_run}
 use Rattle.mono_model.specs.Starting.{argument_block, stack_pointer, start_context, STACK_PAGE, STACK_PAGES}
 use Rattle.libos_state.specs.declared.cont.Cont.{Cont}
 use Rattle.libos_state.specs.declared.cont.Event.{Event}
@@ -87,9 +88,6 @@ program_in c = program_of c.bytes
 
 abbrev pub runs_in : Cont → List Run
 runs_in c = (program_in c).runs
-
-abbrev pub no_run : Run
-no_run = record { page = 0; rights = 0; bytes = [] }
 
 abbrev pub run_in : Cont → Run
 run_in c = slice_index_or (runs_in c) (number c 0) no_run

@@ -1,7 +1,14 @@
--- The numbers that the format of images has for the stages.
-use Rattle.std.specs.Prelude.{ℕ}
+-- The stages: which are the last, and the numbers that the format of images has for them.
+use Rattle.std.specs.Prelude.{ℕ, Bool, true, false}
 use Rattle.libos_state.specs.declared.cont.Stage.{Stage}
 use Rattle.libos_state.specs.declared.cont.Stage.TheVariants.{SetContext, Resume, CloseEvent, ExitThread, CloseHandles, ExitProcess, ReadBuffer, WriteStream, AllocatePages, FreePages, ProtectPages, Configure, OpenConsole, OpenProgram, ProgramLength, ReadProgram, CloseProgram, CreateProcess, AllocateRun, WriteRun, ProtectRun, AllocateStack, WriteBlock, CreateThread, CreateEvent, StartThread, CloseStream}
+
+-- The thread gets its registers, or becomes ready: what each service of a system call that goes on
+-- does last.
+abbrev pub is_at_end : Stage → Bool
+is_at_end SetContext = true
+is_at_end Resume = true
+is_at_end _ = false
 
 abbrev pub number_of : Stage → ℕ
 number_of SetContext = 1

@@ -13,7 +13,7 @@ ghost use Rattle.turn_engine.specs.Halts.{Halts, HaltsTurn, ServesNoTrap, Starts
 
 use abi_calls::{Call, Host, HostError, Turned};
 use bas_edge::Memory;
-use libos_calls::{answered, enter, pending};
+use libos_calls::{answered, enter};
 use libos_state::LibOs;
 use std::alloc::Global;
 use thiserror::Error;
@@ -128,7 +128,7 @@ impl Machine {
             (H.told host.new) (H.journal host.new) (H.answered_count host.new)) }
         ensures cause { HasCause EngineError.Failed (H.fault_count host.old) (H.fault_count host.new) result }
     {
-        let call = pending(&self.os, alloc)?;
+        let call = self.os.pending(alloc)?;
         match call {
             None => Ok(false),
             Some(call) => {

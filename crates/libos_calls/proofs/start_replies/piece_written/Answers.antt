@@ -8,7 +8,7 @@ use Rattle.libos_state.specs.Pending.{number, run_in, run_piece}
 use Rattle.libos_state.specs.Answered.{start_writing}
 use Rattle.libos_state.specs.Fits.{KeepsRun}
 use Rattle.libos_state.proofs.Programs.{lies_behind}
-use Rattle.libos_calls.proofs.Pieces.{length-run_piece}
+use Rattle.libos_state.proofs.RunPieces.{length-run_piece}
 use Rattle.libos_calls.proofs.start_replies.piece_written.Goals as goal
 
 size_is : (c : Cont) (run : Extent) → KeepsRun c → run ≡ extent_of (run_in c) → run.count * 4096 ≡ length (run_in c).bytes
