@@ -1,24 +1,20 @@
-use crate::forms::{Holds, Shows, shelf_of, sink_of, source_of, store_of};
-use crate::scene::{Edge, Failure, Files, Scene};
+use crate::scene::Scene;
 use abi_calls::{Call, Host, Reply};
 use anyhow::Result;
-use bas_edge::{Memory, Shelf, Sink, Source, Store};
+use bas_edge::{Shelf, Sink, Source, Store};
 use bascule_top::bascule;
-use host_monitor::Monitor;
-use host_objects::Counting;
+use scene_script::{
+    Edge, Failure, Files, Holds, Left, Memories, Shows, files_left, host_over, left_by,
+    memories_of, shelf_of, sink_of,
+};
 use std::alloc::{AllocError, Global};
-use std::collections::{BTreeMap, BTreeSet};
 
 /// What the commands of a scene came to.
 #[derive(Drop)]
 pub struct Seen {
     pub statuses: Vec<u8>,
     pub notes: Vec<u8>,
-    pub output: Vec<u8>,
-    pub errors: Vec<u8>,
-    /// How many bytes of the console's input are left.
-    pub left: usize,
-    pub files: Files,
+    pub left: Left,
     pub texts: Files,
     pub counts: Counts,
 }
@@ -31,37 +27,6 @@ pub struct Counts {
     pub turns: u64,
     /// Whether something failed.
     pub failed: bool,
-}
-
-/// What a host stands on.
-#[derive(Drop)]
-struct Outside<I, O, P, E> {
-    input: I,
-    output: O,
-    errors: P,
-    store: E,
-}
-
-/// A host that was not used, over these.
-fn host_over<I: Source + Drop, O: Sink + Drop, P: Sink + Drop, E: Store + Drop>(
-    alloc: Global,
-    outside: Outside<I, O, P, E>,
-) -> Result<Monitor<I, O, P, E, Counting>, Memory> {
-    let Outside {
-        input,
-        output,
-        errors,
-        store,
-    } = outside;
-    Monitor::new(
-        alloc,
-        input,
-        output,
-        errors,
-        store,
-        Counting::new(alloc),
-        false,
-    )
 }
 
 /// Carries out the commands one after another, and gives their statuses.
@@ -95,22 +60,6 @@ fn counted<H: Host, F: Shelf, N: Sink>(host: &mut H, shelf: &F, notes: &N) -> Co
     }
 }
 
-/// The files of these names.
-fn files_left<H: Holds>(
-    alloc: Global,
-    names: &BTreeSet<Vec<u8>>,
-    holder: &H,
-) -> Result<Files, AllocError> {
-    let mut files = BTreeMap::new(alloc);
-    for name in names.iter() {
-        if let Some(bytes) = holder.held(name.as_slice()) {
-            let bytes = Vec::from_slice(alloc, bytes)?;
-            files.insert(name.clone()?, bytes)?;
-        }
-    }
-    Ok(files)
-}
-
 /// Carries out the commands of the scene over one host that stands on these.
 fn play_over<
     I: Source + Shows + Drop,
@@ -122,34 +71,27 @@ fn play_over<
 >(
     alloc: Global,
     scene: &Scene,
-    outside: Outside<I, O, P, E>,
+    memories: Memories<I, O, P, E>,
     shelf: &mut F,
     notes: &mut N,
 ) -> Result<Seen> {
-    let mut host = host_over(alloc, outside)?;
+    let mut host = host_over(alloc, memories, false)?;
     let statuses = carry_out(alloc, scene.commands.as_slice(), &mut host, shelf, notes)?;
     let counts = counted(&mut host, shelf, notes);
+    let names = scene.all_names()?;
     Ok(Seen {
         statuses,
         notes: Vec::from_slice(alloc, notes.shown())?,
-        output: Vec::from_slice(alloc, host.output().shown())?,
-        errors: Vec::from_slice(alloc, host.errors().shown())?,
-        left: host.input().shown().len(),
-        files: files_left(alloc, &scene.names, host.store())?,
-        texts: files_left(alloc, &scene.names, shelf)?,
+        left: left_by(alloc, &host, &names)?,
+        texts: files_left(alloc, &names, shelf)?,
         counts,
     })
 }
 
 /// Carries out the commands of the scene over one host in memory, where these calls fail.
 pub fn play(alloc: Global, scene: &Scene, failures: &[Failure]) -> Result<Seen> {
-    let outside = Outside {
-        input: source_of(alloc, scene.input.as_slice(), failures)?,
-        output: sink_of(alloc, failures, Edge::Output)?,
-        errors: sink_of(alloc, failures, Edge::Errors)?,
-        store: store_of(alloc, &scene.files, failures)?,
-    };
+    let memories = memories_of(alloc, &scene.start, failures)?;
     let mut shelf = shelf_of(alloc, &scene.texts, failures)?;
     let mut notes = sink_of(alloc, failures, Edge::Notes)?;
-    play_over(alloc, scene, outside, &mut shelf, &mut notes)
+    play_over(alloc, scene, memories, &mut shelf, &mut notes)
 }

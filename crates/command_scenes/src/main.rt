@@ -17,27 +17,24 @@
 #![tactic(auto)]
 
 use anyhow::{Result, bail};
+use scene_script::{Play, parted, play_each};
 use std::alloc::Global;
 
-mod forms;
 mod hosts;
-mod printing;
 mod scene;
-mod words;
+mod telling;
 
 use hosts::play;
-use printing::told;
-use scene::{Edge, Failure, Scene, edge_of};
-use words::parted;
-
-/// How many calls of an edge are made to fail at most, one in each turn.
-const MOST_CALLS: u64 = 1_000;
+use scene::Scene;
+use telling::told;
 
 /// Plays the scene once, and goes on with the files that it leaves.
 fn play_once(alloc: Global, scene: &mut Scene) -> Result<String> {
-    let seen = play(alloc, scene, scene.failures.as_slice())?;
+    let seen = play(alloc, scene, scene.start.failures.as_slice())?;
     let text = told(alloc, scene, &seen)?;
-    scene.hold(seen.files, seen.texts);
+    let left = seen.left;
+    scene.texts = seen.texts;
+    scene.start.files = left.files;
     scene.go_on();
     Ok(text)
 }
@@ -46,25 +43,6 @@ fn play_once(alloc: Global, scene: &mut Scene) -> Result<String> {
 fn run(alloc: Global, scene: &mut Scene, words: &str) -> Result<String> {
     scene.add_command(words)?;
     play_once(alloc, scene)
-}
-
-/// Plays the scene with each call of the edge failing in turn, until none fails.
-fn play_each(alloc: Global, scene: &mut Scene, edge: Edge) -> Result<String> {
-    let mut all = String::new(alloc);
-    let mut last = String::new(alloc);
-    for call in 1..MOST_CALLS {
-        let seen = play(alloc, scene, [Failure { edge, call }].as_slice())?;
-        let text = told(alloc, scene, &seen)?;
-        if text != last {
-            all.push_str(text.as_str())?;
-        }
-        if !seen.counts.failed {
-            break;
-        }
-        last = text;
-    }
-    scene.go_on();
-    Ok(all)
 }
 
 /// Puts a program there, as `asm` and `put` make it.
@@ -80,8 +58,9 @@ fn build(alloc: Global, scene: &mut Scene, rest: &str) -> Result<()> {
             bail!("no program {name}");
         }
     }
-    for (name, bytes) in seen.files {
-        scene.put_file(name, bytes)?;
+    let left = seen.left;
+    for (name, bytes) in left.files {
+        scene.start.files.insert(name, bytes)?;
     }
     Ok(())
 }
@@ -103,7 +82,7 @@ fn take_line(alloc: Global, scene: &mut Scene, line: &str) -> Result<String> {
         }
         b"play" => play_once(alloc, scene),
         b"run" => run(alloc, scene, rest),
-        b"each" => play_each(alloc, scene, edge_of(rest)?),
+        b"each" => play_each(alloc, scene, rest),
         b"" => Ok(String::new(alloc)),
         _ => bail!("no line {line}"),
     }

@@ -1,54 +1,20 @@
-use crate::words::{bytes_of, parted, texts_of};
-use anyhow::{Result, bail};
+use crate::hosts::play;
+use crate::telling::told;
+use anyhow::Result;
+use scene_script::{Failure, Files, Play, Played, Start, bytes_of, file_in, names_of, parted};
 use std::alloc::{AllocError, Global};
 use std::collections::{BTreeMap, BTreeSet};
 
-/// Files by name.
-pub type Files = BTreeMap<Vec<u8>, Vec<u8>>;
-
-/// What of the outside can be made to fail.
-#[derive(Clone, Copy, Debug, PartialEq, Eq)]
-pub enum Edge {
-    Input,
-    Output,
-    Errors,
-    Store,
-    Shelf,
-    Notes,
-}
-
-/// A call of an edge that fails, the first being 1.
-#[derive(Clone, Copy, Debug)]
-pub struct Failure {
-    pub edge: Edge,
-    pub call: u64,
-}
-
-/// What a scene begins with: the files of the host and of the user, the console's input, the calls that fail, and the
-/// commands that are carried out one after another over one host.
+/// What a scene begins with: what its host does, the files of the user, and the commands that are carried out one after
+/// another over one host.
 #[derive(Drop)]
 pub struct Scene {
     alloc: Global,
-    pub files: Files,
+    pub start: Start,
     pub texts: Files,
-    pub input: Vec<u8>,
-    pub failures: Vec<Failure>,
     pub commands: Vec<Vec<String>>,
-    /// The names of the files that are looked at.
-    pub names: BTreeSet<Vec<u8>>,
-}
-
-/// The edge of a name.
-pub fn edge_of(name: &str) -> Result<Edge> {
-    match name.as_bytes() {
-        b"input" => Ok(Edge::Input),
-        b"output" => Ok(Edge::Output),
-        b"errors" => Ok(Edge::Errors),
-        b"store" => Ok(Edge::Store),
-        b"shelf" => Ok(Edge::Shelf),
-        b"notes" => Ok(Edge::Notes),
-        _ => bail!("no edge {name}"),
-    }
+    /// The names of the files that are looked at, beside those that are there.
+    names: BTreeSet<Vec<u8>>,
 }
 
 /// The statements of a program, each as a line of a text.
@@ -61,15 +27,25 @@ fn lines_of(alloc: Global, statements: &str) -> Result<Vec<u8>, AllocError> {
     Ok(text)
 }
 
+/// The words that a line has, each as the text that it stands for.
+fn texts_of(alloc: Global, line: &str) -> Result<Vec<String>> {
+    let mut texts = Vec::new(alloc);
+    if line.is_empty() {
+        return Ok(texts);
+    }
+    for word in line.split(' ') {
+        texts.push(String::from_utf8(bytes_of(alloc, word)?)?)?;
+    }
+    Ok(texts)
+}
+
 impl Scene {
     /// A scene without anything.
     pub fn new(alloc: Global) -> Scene {
         Scene {
             alloc,
-            files: BTreeMap::new(alloc),
+            start: Start::new(alloc),
             texts: BTreeMap::new(alloc),
-            input: Vec::new(alloc),
-            failures: Vec::new(alloc),
             commands: Vec::new(alloc),
             names: BTreeSet::new(alloc),
         }
@@ -81,29 +57,17 @@ impl Scene {
         Ok(())
     }
 
-    /// The name and the bytes of a file.
-    fn file_in(&self, rest: &str) -> Result<(Vec<u8>, Vec<u8>)> {
-        let (name, bytes) = parted(rest);
-        let name = bytes_of(self.alloc, name)?;
-        let bytes = bytes_of(self.alloc, bytes)?;
-        Ok((name, bytes))
-    }
-
-    /// Puts a file of the host there.
-    pub fn put_file(&mut self, name: Vec<u8>, bytes: Vec<u8>) -> Result<(), AllocError> {
-        self.look(name.as_slice())?;
-        self.files.insert(name, bytes)?;
-        Ok(())
-    }
-
-    fn add_file(&mut self, rest: &str) -> Result<()> {
-        let (name, bytes) = self.file_in(rest)?;
-        self.put_file(name, bytes)?;
-        Ok(())
+    /// The names of all files that are looked at.
+    pub fn all_names(&self) -> Result<BTreeSet<Vec<u8>>, AllocError> {
+        let mut names = names_of(self.alloc, &self.start.files)?;
+        for name in self.names.iter() {
+            names.insert(name.clone()?)?;
+        }
+        Ok(names)
     }
 
     fn add_text(&mut self, rest: &str) -> Result<()> {
-        let (name, bytes) = self.file_in(rest)?;
+        let (name, bytes) = file_in(self.alloc, rest)?;
         self.look(name.as_slice())?;
         self.texts.insert(name, bytes)?;
         Ok(())
@@ -128,38 +92,29 @@ impl Scene {
         Ok(())
     }
 
-    fn add_failure(&mut self, rest: &str) -> Result<()> {
-        let (edge, call) = parted(rest);
-        let edge = edge_of(edge)?;
-        let call = call.parse::<u64>()?;
-        self.failures.push(Failure { edge, call })?;
-        Ok(())
-    }
-
     /// Takes a line that says what there is, and answers whether it was one.
     pub fn take_line(&mut self, word: &str, rest: &str) -> Result<bool> {
         match word.as_bytes() {
-            b"file" => self.add_file(rest)?,
             b"text" => self.add_text(rest)?,
             b"lines" => self.add_lines(rest)?,
-            b"input" => self.input = bytes_of(self.alloc, rest)?,
-            b"fail" => self.add_failure(rest)?,
             b"do" => self.add_command(rest)?,
-            _ => return Ok(false),
+            _ => return self.start.take_line(word, rest),
         }
         Ok(true)
     }
+}
 
-    /// Has these files.
-    pub fn hold(&mut self, files: Files, texts: Files) {
-        self.files = files;
-        self.texts = texts;
+impl Play for Scene {
+    fn play(&self, failures: &[Failure]) -> Result<Played> {
+        let seen = play(self.alloc, self, failures)?;
+        Ok(Played {
+            text: told(self.alloc, self, &seen)?,
+            failed: seen.counts.failed,
+        })
     }
 
-    /// Forgets all but the files.
-    pub fn go_on(&mut self) {
-        self.input = Vec::new(self.alloc);
-        self.failures = Vec::new(self.alloc);
+    fn go_on(&mut self) {
+        self.start.go_on();
         self.commands = Vec::new(self.alloc);
     }
 }

@@ -1,4 +1,4 @@
-use crate::scene::{Edge, Failure, Files};
+use crate::start::{Edge, Failure, Files};
 use anyhow::Result;
 use bas_edge::{ByteSink, ByteSource, MapShelf, MapStore};
 use std::alloc::{AllocError, Global};
@@ -54,20 +54,24 @@ fn calls_of(alloc: Global, failures: &[Failure], edge: Edge) -> Result<Vec<u64>,
 }
 
 /// The console's input.
-pub fn source_of(alloc: Global, input: &[u8], failures: &[Failure]) -> Result<ByteSource> {
+pub(crate) fn source_of(
+    alloc: Global,
+    input: &[u8],
+    failures: &[Failure],
+) -> Result<ByteSource, AllocError> {
     let bytes = Vec::from_slice(alloc, input)?;
     let calls = calls_of(alloc, failures, Edge::Input)?;
     Ok(ByteSource::new(bytes, calls))
 }
 
 /// The sink of an edge.
-pub fn sink_of(alloc: Global, failures: &[Failure], edge: Edge) -> Result<ByteSink> {
+pub fn sink_of(alloc: Global, failures: &[Failure], edge: Edge) -> Result<ByteSink, AllocError> {
     let calls = calls_of(alloc, failures, edge)?;
     Ok(ByteSink::new(alloc, calls))
 }
 
 /// The host's files.
-pub fn store_of(alloc: Global, files: &Files, failures: &[Failure]) -> Result<MapStore> {
+pub(crate) fn store_of(alloc: Global, files: &Files, failures: &[Failure]) -> Result<MapStore> {
     let mut list = Vec::new(alloc);
     for (name, bytes) in files.iter() {
         let entry = (name.clone()?, bytes.clone()?);

@@ -1,7 +1,7 @@
-use crate::hosts::Seen;
-use crate::scene::{Files, Scene};
+use crate::leaving::Left;
+use crate::start::{Files, Start};
 use percent_encoding::{AsciiSet, CONTROLS, percent_encode};
-use std::alloc::{AllocError, Global};
+use std::alloc::AllocError;
 use std::fmt::Write;
 
 /// The most bytes that are written out; of more the sum is.
@@ -22,31 +22,33 @@ fn sum_of(bytes: &[u8]) -> u32 {
 }
 
 /// Adds the bytes, escaped.
-fn add_escaped(text: &mut String, bytes: &[u8]) -> Result<(), AllocError> {
+pub fn add_escaped(text: &mut String, bytes: &[u8]) -> Result<(), AllocError> {
     percent_encode(bytes, escaped()).append_to(text)
 }
 
 /// Adds how many bytes there are, and the bytes or, where they are many, their sum.
-fn add_bytes(text: &mut String, bytes: &[u8]) -> Result<(), AllocError> {
+pub fn add_bytes(text: &mut String, bytes: &[u8]) -> Result<(), AllocError> {
     let count = bytes.len();
     write!(text, ", {count} bytes")?;
     if count > MOST_SHOWN {
         let sum = sum_of(bytes);
-        write!(text, ", sum {sum}")?;
+        write!(text, ", sum {sum}")
     } else if count > 0 {
         text.push_str(": ")?;
-        add_escaped(text, bytes)?;
+        add_escaped(text, bytes)
+    } else {
+        Ok(())
     }
-    text.push_str("\n")
 }
 
 /// Adds a line of a word and bytes, where there are any.
-fn add_line(text: &mut String, word: &str, bytes: &[u8]) -> Result<(), AllocError> {
+pub fn add_line(text: &mut String, word: &str, bytes: &[u8]) -> Result<(), AllocError> {
     if bytes.is_empty() {
         return Ok(());
     }
     text.push_str(word)?;
-    add_bytes(text, bytes)
+    add_bytes(text, bytes)?;
+    text.push_str("\n")
 }
 
 /// Adds a word and a name.
@@ -69,6 +71,7 @@ fn add_changed(
         }
         add_name(text, word, name.as_slice())?;
         add_bytes(text, bytes.as_slice())?;
+        text.push_str("\n")?;
     }
     Ok(())
 }
@@ -84,33 +87,23 @@ fn add_gone(text: &mut String, word: &str, before: &Files, now: &Files) -> Resul
     Ok(())
 }
 
-/// Adds the statuses, and the counts where nothing failed.
-fn add_counts(text: &mut String, seen: &Seen) -> Result<(), AllocError> {
-    text.push_str("status")?;
-    for status in &seen.statuses {
-        write!(text, " {status}")?;
-    }
-    if seen.counts.failed {
-        return text.push_str("\n");
-    }
-    let (calls, turns) = (seen.counts.calls, seen.counts.turns);
-    writeln!(text, ", {calls} calls, {turns} turns")
+/// Adds a line for each file that has changed, and one for each that has gone.
+pub fn add_changes(
+    text: &mut String,
+    word: &str,
+    before: &Files,
+    now: &Files,
+) -> Result<(), AllocError> {
+    add_changed(text, word, before, now)?;
+    add_gone(text, word, before, now)
 }
 
-/// What the commands of a scene came to, in lines: the statuses, what was written, what is left of the input, and
-/// the files that have changed.
-pub fn told(alloc: Global, scene: &Scene, seen: &Seen) -> Result<String, AllocError> {
-    let mut text = String::new(alloc);
-    add_counts(&mut text, seen)?;
-    add_line(&mut text, "notes", seen.notes.as_slice())?;
-    add_line(&mut text, "output", seen.output.as_slice())?;
-    add_line(&mut text, "errors", seen.errors.as_slice())?;
-    if !scene.input.is_empty() {
-        writeln!(&mut text, "{} bytes of the input are left", seen.left)?;
+/// Adds what a host has left: what was written, what is left of the input, and the files that have changed.
+pub fn add_left(text: &mut String, start: &Start, left: &Left) -> Result<(), AllocError> {
+    add_line(text, "output", left.output.as_slice())?;
+    add_line(text, "errors", left.errors.as_slice())?;
+    if !start.input.is_empty() {
+        writeln!(text, "{} bytes of the input are left", left.input)?;
     }
-    add_changed(&mut text, "file", &scene.files, &seen.files)?;
-    add_gone(&mut text, "file", &scene.files, &seen.files)?;
-    add_changed(&mut text, "text", &scene.texts, &seen.texts)?;
-    add_gone(&mut text, "text", &scene.texts, &seen.texts)?;
-    Ok(text)
+    add_changes(text, "file", &start.files, &left.files)
 }
