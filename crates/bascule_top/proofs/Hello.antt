@@ -35,7 +35,8 @@ use Rattle.guest_space.specs.Regions.{merged}
 use Rattle.mono_model.specs.Readable.{Readable}
 use Rattle.mono_model.specs.Written.{nothing}
 use Rattle.mono_model.specs.Machine.{Mono, Process, Thread, Description, process_at, thread_at, with_memory_in, with_process, with_thread, with_registers, exit_code, code_in, exited}
-use Rattle.mono_model.specs.Calls.{Caller, Served, silently, served, finished, is_other_thread, has_other_thread, without_thread, ended, description_of, described_in, described_by, writable, write_to, write_unless, memory_in, with_exited}
+use Rattle.mono_model.specs.Calls.{Caller, Served, silently, finished, is_other_thread, has_other_thread, without_thread, ended, description_of, described_in, described_by, writable, write_to, write_unless, memory_in, with_exited}
+use Rattle.mono_model.specs.SystemCalls.{served}
 use Rattle.mono_model.specs.Starting.{argument_block, Runs, blank, begun, begun_from, started_if, boot, console_descriptors, console_descriptions, new_process}
 use Rattle.mono_model.specs.Turns.{Ending, Exited, ends_as, behind, with_pick, with_run_of, after_run, run_thread, turn_of, run_of}
 use Rattle.mono_model.proofs.RunLaws.{run_of-exited, run_of-turn}
@@ -210,8 +211,8 @@ write_served m s process descriptions holds =
     let open_output : description_of m 1 1 ≡ Some console_output =
     ap (λ (p : Option Process). described_in m 1 p) process ∙ ap (λ (d : Option ℕ). described_by m d) output_descriptor ∙ (λ i. get {R = nat_cmp} (descriptions i) 2) ∙ output_description in
     ap (λ (d : Option Description). write_to m who (writable d)) open_output
-    ∙ ap (λ (p : Option Process). write_unless m who ConOut (bytes_from (memory_of (memory_in p)) 0x1009c 3) (first_fault (memory_of (memory_in p)) 1 0x1009c 3)) process
-    ∙ (λ i. write_unless m who ConOut (text_there (memory_of s) holds i) (text_readable (memory_of s) holds i))
+    ∙ ap (λ (p : Option Process). write_unless m who console_output (bytes_from (memory_of (memory_in p)) 0x1009c 3) (first_fault (memory_of (memory_in p)) 1 0x1009c 3)) process
+    ∙ (λ i. write_unless m who console_output (text_there (memory_of s) holds i) (text_readable (memory_of s) holds i))
 
 -- ---- the run
 

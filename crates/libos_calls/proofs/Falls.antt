@@ -8,20 +8,24 @@ use Rattle.std.proofs.Common.{refl, arith, lit<, ltb-true, leb-false, length-app
 use Rattle.std.proofs.lemmas.Bool.{eqb-false}
 use Rattle.std.proofs.lemmas.List.{length_push}
 use Rattle.abi_calls.specs.declared.reply.Reply.{Reply}
-use Rattle.abi_calls.specs.declared.reply.Reply.TheVariants.{Done, Handle, Bytes, Count, Length, Exists, BadAddress, NoAccess, NoRoom}
+use Rattle.abi_calls.specs.declared.reply.Reply.TheVariants.{Done, Handle, Bytes, Count, Length, Exists, BadAddress, NoAccess, NoRoom, TooBig}
+use Rattle.mono_model.specs.Machine.{register}
 use Rattle.mono_model.specs.Calls.{ENOMEM, EINVAL, error}
+use Rattle.mono_model.specs.FileCalls.{sought, status}
 use Rattle.mono_model.specs.Starting.{STACK_PAGE}
 use Rattle.elf_loader.specs.declared.Program.{Program}
 use Rattle.elf_loader.specs.declared.ElfError.{ElfError}
 use Rattle.elf_loader.specs.Image.{loaded, page_count}
 use Rattle.libos_state.specs.declared.cont.Cont.{Cont}
 use Rattle.libos_state.specs.declared.cont.Stage.{Stage}
-use Rattle.libos_state.specs.declared.cont.Stage.TheVariants.{SetContext, CloseEvent, CloseHandles, ReadBuffer, WriteStream, AllocatePages, FreePages, ProtectPages, Configure, OpenConsole, OpenProgram, ProgramLength, ReadProgram, CloseProgram, CreateProcess, AllocateRun, WriteRun, ProtectRun, AllocateStack, WriteBlock, CreateThread, CreateEvent, StartThread, CloseStream}
+use Rattle.libos_state.specs.declared.cont.Stage.TheVariants.{SetContext, CloseEvent, CloseHandles, ReadStream, StoreBytes, ReadBuffer, AppendLength, WriteStream, FileLength, SetFileLength, AllocatePages, FreePages, ProtectPages, Configure, OpenConsole, OpenProgram, ProgramLength, ReadProgram, CloseProgram, CreateProcess, AllocateRun, WriteRun, ProtectRun, AllocateStack, WriteBlock, CreateThread, CreateEvent, StartThread, CloseStream}
 use Rattle.libos_state.specs.declared.state.LibOs.{LibOs}
 use Rattle.libos_state.specs.declared.step.Step.{Step}
 use Rattle.libos_state.specs.declared.step.Step.TheVariants.{GivesBreak, Ends, Asks}
-use Rattle.libos_state.specs.Pending.{number, is_brk, runs_in, run_in, run_piece}
-use Rattle.libos_state.specs.Answered.{bare, starting, with_step, with_change, service_with_result, service_closing, break_change, mapping_step, changed_step, load_step, answered_at, answered, answered_in, closing_change}
+use Rattle.libos_state.specs.declared.notes.Description.{Description}
+use Rattle.libos_state.specs.Pending.{upcall_in, number, argument, is_brk, runs_in, run_in, run_piece}
+use Rattle.libos_state.specs.Records.{description_behind, is_file}
+use Rattle.libos_state.specs.Answered.{bare, starting, with_step, with_change, service_with_result, service_closing, service_storing, service_writing, service_sending, service_with_bytes, service_with_length, seek_result, is_lseek, store_change, length_change, break_change, mapping_step, changed_step, load_step, answered_at, answered, answered_in, closing_change}
 use Rattle.libos_state.specs.Kept.{KeptAt, IsKept}
 use Rattle.libos_state.proofs.Programs.{few_runs, lies_behind}
 use Rattle.libos_state.proofs.RunPieces.{length-run_piece}
@@ -34,6 +38,28 @@ closes_falls c (h ∷ k ∷ handles) = omega arith
 
 closed_falls : (os : LibOs) (c : Cont) → calls_left (with_step os (Asks (record (bare c SetContext) { next = c.next }))) < weighed 0 0 2 0 + 1
 closed_falls os c = lit< tt
+
+-- The bytes of a stream are stored, unless there are none.
+bytes_fall : (c : Cont) (bytes : List ℕ) (none : Bool) →
+    left_of (Some (if none then service_with_result c 0 else service_storing c (argument c 1) bytes (length bytes))) < weighed 0 0 3 0 + 1
+bytes_fall c bytes true = lit< tt
+bytes_fall c bytes false = lit< tt
+
+-- The length of a file gives a position, or a status that is stored.
+file_length_falls : (c : Cont) (size : ℕ) (lseek : Bool) →
+    left_of (Some (if lseek then service_with_result c (seek_result (sought size (argument c 1))) else service_storing c (argument c 1) (status true size) 0)) < weighed 0 0 3 0 + 1
+file_length_falls c size true = lit< tt
+file_length_falls c size false = lit< tt
+
+-- Bytes that are sent are written, or the length of their file is asked for before.
+sends_fall_by : (c : Cont) (append : Bool) (offset : ℕ) →
+    left_of (Some (if append then record (bare c AppendLength) { bytes = c.bytes } else service_writing c c.bytes offset)) < weighed 0 0 4 0 + 1
+sends_fall_by c true offset = lit< tt
+sends_fall_by c false offset = lit< tt
+
+sends_fall : (c : Cont) (d : Option Description) → left_of (Some (service_sending c d)) < weighed 0 0 4 0 + 1
+sends_fall c None = lit< tt
+sends_fall c (Some d) = sends_fall_by c d.append (if is_file d.kind then d.position else 0)
 
 -- The run is looked for from a higher page on.
 mapping_falls : (c : Cont) (page count : ℕ) (below : Bool) → 1 ≤ count → page + count ≤ STACK_PAGE →
@@ -105,10 +131,21 @@ falls_at os c SetContext Done kept small = lit< tt
 falls_at os c CloseStream Done kept small = closed_falls (with_change os (closing_change c)) c
 falls_at os c CloseEvent Done kept small = lit< tt
 falls_at os c CloseHandles Done kept small = closes_falls c c.handles
-falls_at os c ReadBuffer (Bytes bytes) kept small = lit< tt
+falls_at os c ReadStream (Bytes bytes) kept small = bytes_fall c bytes (length bytes == 0)
+falls_at os c StoreBytes Done kept small = lit< tt
+falls_at os c StoreBytes BadAddress kept small = lit< tt
+falls_at os c StoreBytes NoAccess kept small = lit< tt
+falls_at os c ReadBuffer (Bytes bytes) kept small =
+    let u = upcall_in c.event in
+    sends_fall (record c { bytes = bytes }) (description_behind os u.process (register u.context 10))
 falls_at os c ReadBuffer BadAddress kept small = lit< tt
 falls_at os c ReadBuffer NoAccess kept small = lit< tt
+falls_at os c AppendLength (Length size) kept small = lit< tt
 falls_at os c WriteStream (Count n) kept small = lit< tt
+falls_at os c WriteStream TooBig kept small = lit< tt
+falls_at os c FileLength (Length size) kept small = file_length_falls c size (is_lseek c)
+falls_at os c SetFileLength Done kept small = lit< tt
+falls_at os c SetFileLength TooBig kept small = lit< tt
 falls_at os c AllocatePages Done kept small =
     given_falls (with_change os (break_change c)) c (is_brk c) (mapping_step c Done) (STACK_PAGE - number c 0) (λ _. omega arith)
 falls_at os c AllocatePages Exists kept small =

@@ -8,7 +8,7 @@ use Rattle.abi_calls.specs.declared.reply.Reply.TheVariants.{Length}
 use Rattle.mono_model.specs.Starting.{STACK_PAGE}
 use Rattle.libos_state.specs.declared.cont.Cont.{Cont}
 use Rattle.libos_state.specs.declared.cont.Stage.{Stage}
-use Rattle.libos_state.specs.declared.cont.Stage.TheVariants.{SetContext, Resume, CloseEvent, ExitThread, CloseHandles, ExitProcess, ReadBuffer, WriteStream, AllocatePages, FreePages, ProtectPages, Configure, OpenConsole, OpenProgram, ProgramLength, ReadProgram, CloseProgram, CreateProcess, AllocateRun, WriteRun, ProtectRun, AllocateStack, WriteBlock, CreateThread, CreateEvent, StartThread, CloseStream}
+use Rattle.libos_state.specs.declared.cont.Stage.TheVariants.{SetContext, Resume, CloseEvent, ExitThread, CloseHandles, ExitProcess, ReadStream, StoreBytes, ReadBuffer, AppendLength, WriteStream, FileLength, SetFileLength, AllocatePages, FreePages, ProtectPages, Configure, OpenConsole, OpenProgram, ProgramLength, ReadProgram, CloseProgram, CreateProcess, AllocateRun, WriteRun, ProtectRun, AllocateStack, WriteBlock, CreateThread, CreateEvent, StartThread, CloseStream}
 use Rattle.libos_state.specs.declared.state.LibOs.{LibOs}
 use Rattle.libos_state.specs.Pending.{number, runs_in, run_in}
 use Rattle.libos_state.specs.Stages.{is_at_end}
@@ -49,8 +49,13 @@ abbrev pub stages_behind : Stage → ℕ
 stages_behind Resume = 0
 stages_behind SetContext = 1
 stages_behind CloseStream = 2
+stages_behind StoreBytes = 2
+stages_behind ReadStream = 3
 stages_behind WriteStream = 2
-stages_behind ReadBuffer = 3
+stages_behind AppendLength = 3
+stages_behind ReadBuffer = 4
+stages_behind FileLength = 3
+stages_behind SetFileLength = 2
 stages_behind AllocatePages = 2
 stages_behind FreePages = 2
 stages_behind ProtectPages = 2

@@ -7,10 +7,10 @@ ghost use Rattle.libos_state.specs.Entered as entered;
 ghost use Rattle.libos_state.specs.Pending.{upcall_in};
 ghost use Rattle.libos_state.specs.Records.{process_with};
 
-use crate::mapping::{EINVAL, at_pages, pages_changed, pages_for};
-use crate::replies::finishing;
+use crate::mapping::{at_pages, pages_changed, pages_for};
 use abi_calls::{Reply, Upcall};
 use bas_items::Items;
+use libos_files::{EINVAL, finishing};
 use libos_state::{
     A0, Change, Cont, Event, LibOs, ProcessNote, Stage, Step, is_brk, process_by_handle, upcall_of,
 };

@@ -5,10 +5,10 @@ ghost use Rattle.libos_state.specs.Entered as spec;
 ghost use Rattle.libos_state.specs.Records as records;
 
 use crate::entered::tid_with;
-use crate::replies::bare;
 use abi_calls::Upcall;
 use bas_edge::Memory;
 use bas_items::Items;
+use libos_files::bare;
 use libos_state::{Cont, Event, LibOs, Queued, Stage, ThreadNote, thread_by_handle};
 use std::alloc::{AllocError, Global};
 

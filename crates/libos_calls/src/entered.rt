@@ -1,5 +1,6 @@
 ghost use Rattle.std.specs.Prelude.{◌≡◌, ◌<◌, ◌^◌, ◌==◌, not, filter, IfOk, OnOk, map, ◌++◌};
-ghost use Rattle.mono_model.specs.Calls.{fault_code, EXIT};
+ghost use Rattle.mono_model.specs.Calls.{EXIT};
+ghost use Rattle.mono_model.specs.SystemCalls.{fault_code};
 ghost use Rattle.mono_model.specs.Machine.{register};
 ghost use Rattle.libos_state.specs.Entered as spec;
 ghost use Rattle.libos_state.specs.Records as records;
@@ -8,23 +9,23 @@ ghost use Rattle.libos_state.specs.declared.notes.Description.{Description};
 ghost use Rattle.libos_state.specs.declared.state.LibOs.{LibOs};
 
 use crate::breaking::enter_break;
-use crate::closing::{CLOSE, DUP, DUP3, enter_close, enter_dup, enter_dup3, give};
 use crate::ending::{end_thread, has_other_thread};
 use crate::mapping::{MMAP, MPROTECT, MUNMAP, mmap_service, mprotect_service, munmap_service};
 use crate::process_end::{handles_to_close, is_open_without};
-use crate::replies::{bare, closing, error, finishing};
+use crate::replies::closing;
 use abi_calls::Upcall;
 use bas_edge::Memory;
 use bas_items::Items;
+use libos_files::{
+    CLOSE, DUP, DUP3, FSTAT, FTRUNCATE, LSEEK, READ, SYSTEM_CALL, WRITE, error, give, pid_with,
+};
 use libos_state::{
-    A0, BRK, Cont, Description, Event, LibOs, ProcessNote, Queued, Stage, ThreadNote,
-    description_of, process_by_handle, thread_by_handle, thread_by_tid,
+    A0, BRK, Description, Event, LibOs, ProcessNote, Queued, ThreadNote, process_by_handle,
+    thread_by_handle, thread_by_tid,
 };
 use std::alloc::{AllocError, Global};
 
 /// The numbers of the system calls.
-const WRITE: u64 = 64;
-
 const EXIT: u64 = 93;
 
 const EXIT_GROUP: u64 = 94;
@@ -37,16 +38,8 @@ const GETPPID: u64 = 173;
 
 const GETTID: u64 = 178;
 
-/// Error numbers.
-pub const EBADF: u64 = 9;
-
+/// There is no such call.
 const ENOSYS: u64 = 38;
-
-/// The cause of a system call.
-pub const SYSTEM_CALL: u8 = 8;
-
-/// The right to write.
-const WRITABLE: u8 = 2;
 
 /// The exit code of a process that a fault ends.
 fn code_of_fault(cause: u8) -> u8
@@ -57,43 +50,6 @@ fn code_of_fault(cause: u8) -> u8
         3 => 133,
         0 => 135,
         _ => 139,
-    }
-}
-
-/// The service of a write to an open description, of so many bytes.
-fn write_to(alloc: Global, upcall: &Upcall, access: u8, count: u64) -> Cont
-    requires { count ≡ register upcall.now.context 12 }
-    ensures { (os : LibOs) (d : Description) → d.access ≡ access
-        → spec.write_entered os upcall.now (Some d) ≡ record os { cont = Some result } }
-{
-    if access & WRITABLE == WRITABLE {
-        if count == 0 {
-            finishing(alloc, Event::Up(*upcall), 0)
-        } else {
-            bare(alloc, Event::Up(*upcall), Stage::ReadBuffer)
-        }
-    } else {
-        finishing(alloc, Event::Up(*upcall), error(EBADF))
-    }
-}
-
-/// The service of a write.
-fn write_service(alloc: Global, upcall: &Upcall, description: Option<Description>) -> Cont
-    ensures { (os : LibOs) → spec.write_entered os upcall.now description ≡ record os { cont = Some result } }
-{
-    match description {
-        Some(description) => write_to(alloc, upcall, description.access, upcall.context.x[A0 + 2]),
-        None => finishing(alloc, Event::Up(*upcall), error(EBADF)),
-    }
-}
-
-/// The process that has a handle, by its id; 0 where there is none.
-pub fn pid_with(os: &LibOs, handle: u64) -> u64
-    ensures { result ≡ records.pid_with os.now handle }
-{
-    match process_by_handle(os.processes.as_slice(), handle) {
-        Some(note) => note.pid,
-        None => 0,
     }
 }
 
@@ -279,20 +235,9 @@ fn enter_call(os: &mut LibOs, alloc: Global, upcall: &Upcall) -> Result<(), Memo
             enter_known(os, alloc, upcall, number);
             Ok(())
         }
-        WRITE => {
-            let description = description_of(os, upcall.process, registers[A0]);
-            os.cont = Some(write_service(alloc, upcall, description));
-            Ok(())
+        number @ (DUP | DUP3 | FTRUNCATE | CLOSE | LSEEK | READ | WRITE | FSTAT) => {
+            Ok(libos_files::enter(os, alloc, upcall, number)?)
         }
-        CLOSE => {
-            let description = description_of(os, upcall.process, registers[A0]);
-            Ok(enter_close(os, alloc, upcall, description)?)
-        }
-        DUP => {
-            let description = description_of(os, upcall.process, registers[A0]);
-            Ok(enter_dup(os, alloc, upcall, description)?)
-        }
-        DUP3 => Ok(enter_dup3(os, alloc, upcall)?),
         BRK => Ok(enter_break(os, alloc, upcall)?),
         EXIT => exit(os, alloc, upcall),
         EXIT_GROUP => end_process(os, alloc, upcall, (registers[A0] % 256) as u8),

@@ -2,7 +2,6 @@
 #![tactic(auto)]
 
 mod breaking;
-mod closing;
 mod ending;
 mod entered;
 mod mapping;

@@ -9,9 +9,9 @@ ghost use Rattle.libos_state.specs.Kept.{KeptAt};
 ghost use Rattle.libos_state.specs.Pending.{upcall_in, number};
 ghost use Rattle.libos_state.specs.declared.state.LibOs.{LibOs};
 
-use crate::replies::{bare, error, finishing};
 use abi_calls::{Reply, Upcall};
 use bas_items::Items;
+use libos_files::{EINVAL, bare, error, finishing};
 use libos_program::PAGE;
 use libos_state::Step::{Asks, Ends};
 use libos_state::{A0, Cont, Event, STACK_PAGE, Stage, Step, is_brk, number_at};
@@ -25,10 +25,8 @@ pub const MMAP: u64 = 222;
 
 pub const MPROTECT: u64 = 226;
 
-/// Error numbers.
+/// There is no room for so many pages.
 pub const ENOMEM: u64 = 12;
-
-pub const EINVAL: u64 = 22;
 
 /// The rights to read, to write and to run.
 const ALL_RIGHTS: u64 = 7;

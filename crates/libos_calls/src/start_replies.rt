@@ -10,10 +10,10 @@ ghost use Rattle.libos_state.specs.Kept.{KeptAt};
 ghost use Rattle.libos_calls.specs.Left.{IsLengthSmall};
 
 use crate::breaking::break_change;
-use crate::closing::change_of_stream;
 use abi_calls::Reply;
 use bas_edge::Memory;
 use bas_items::Items;
+use libos_files::is_stream_stage;
 use libos_program::{PAGE, count_of_runs, end_of, refusal_of};
 use libos_state::Step::{Asks, Ends, Stops};
 use libos_state::{
@@ -264,8 +264,10 @@ pub fn change_of(alloc: Global, cont: &Cont, reply: &Reply) -> Result<Change, Me
     requires { KeptAt cont.now cont.now.stage }
     ensures { IfOk result (λ change. change ≡ spec.change cont.now cont.now.stage reply.now) }
 {
+    if is_stream_stage(cont.stage) {
+        return Ok(libos_files::change_of(cont, reply));
+    }
     match (cont.stage, reply) {
-        (Stage::CloseStream, Reply::Done) => Ok(change_of_stream(cont)),
         (Stage::AllocatePages | Stage::FreePages, Reply::Done) => Ok(break_change(cont)),
         (Stage::StartThread, Reply::Done) => first_records(alloc, cont),
         _ => Ok(Change::Same),
@@ -318,8 +320,13 @@ pub fn is_of_start(stage: Stage) -> bool
         | Stage::ExitThread
         | Stage::CloseHandles
         | Stage::ExitProcess
+        | Stage::ReadStream
+        | Stage::StoreBytes
         | Stage::ReadBuffer
+        | Stage::AppendLength
         | Stage::WriteStream
+        | Stage::FileLength
+        | Stage::SetFileLength
         | Stage::AllocatePages
         | Stage::FreePages
         | Stage::ProtectPages => false,

@@ -23,15 +23,15 @@ use Rattle.libos_state.specs.declared.cont.Cont.{Cont}
 use Rattle.libos_state.specs.declared.cont.Event.{Event}
 use Rattle.libos_state.specs.declared.cont.Event.TheVariants as event
 use Rattle.libos_state.specs.declared.cont.Stage.{Stage}
-use Rattle.libos_state.specs.declared.cont.Stage.TheVariants.{CloseStream, CloseHandles, ExitProcess, WriteStream, AllocatePages, FreePages, ProtectPages, Configure, OpenConsole, ReadProgram, CreateProcess, AllocateRun, WriteRun, ProtectRun, AllocateStack, WriteBlock, CreateThread, CreateEvent, StartThread}
+use Rattle.libos_state.specs.declared.cont.Stage.TheVariants.{CloseStream, CloseHandles, ExitProcess, StoreBytes, AppendLength, WriteStream, AllocatePages, FreePages, ProtectPages, Configure, OpenConsole, ReadProgram, CreateProcess, AllocateRun, WriteRun, ProtectRun, AllocateStack, WriteBlock, CreateThread, CreateEvent, StartThread}
 use Rattle.libos_state.specs.declared.state.Boot.{Boot}
 use Rattle.libos_state.specs.declared.state.Boot.TheVariants as boot
 use Rattle.libos_state.specs.declared.state.LibOs.{LibOs}
 use Rattle.libos_state.specs.Records.{process_named, process_with, thread_named}
 use Rattle.libos_state.specs.Pending.{upcall_in, number, is_brk, program_name, arguments, runs_in, run_in}
 use Rattle.libos_state.specs.Named.{consoles, kinds_at}
-use Rattle.libos_state.specs.Fits.{Fits, FitsCont, FitsBoot, FitsEvent, FitsNone, FitsRecords, are_distinct, is_given, is_fit_process, is_alive, is_described, is_fit_access, KeepsLists, HasHandles, FitsNames, AreNames, KeepsCode, KeepsPages, KeepsMade, KeepsSize, KeepsRun, KeepsPlace, FitsKept, is_none, keeps_next, keeps_names, keeps_bytes, numbers_at, is_ended_with, is_fit_parent, is_fit_append, LAST_ID, closes_new}
-use Rattle.libos_state.specs.Alone.{fits_records, has_handles_once, has_first, HasNoRecords, has_no_records, FitsProgress, fits_progress, serves_in, FitsAlone, fits_alone, event_comes_to, FitsService, is_same_context, has_handles, keeps_lists, fits_names, are_names, keeps_code, keeps_pages, keeps_made, keeps_size, keeps_run, keeps_place, is_zero_alone, fits_kept, fits_service, FitsServices, IsAtEvent, HasConsoles, FitsSettledObjects, FitsWorld}
+use Rattle.libos_state.specs.Fits.{Fits, FitsCont, FitsBoot, FitsEvent, FitsNone, FitsRecords, are_distinct, is_given, is_fit_process, is_alive, is_described, is_fit_access, KeepsLists, HasHandles, FitsNames, AreNames, KeepsCode, KeepsPages, KeepsMade, KeepsSize, KeepsRun, KeepsPlace, FitsKept, is_none, keeps_next, keeps_names, keeps_bytes, numbers_at, is_ended_with, is_fit_parent, is_fit_append, LAST_ID, closes_new, most_stored, writes_at}
+use Rattle.libos_state.specs.Alone.{fits_records, has_handles_once, has_first, HasNoRecords, has_no_records, FitsProgress, fits_progress, serves_in, FitsAlone, fits_alone, event_comes_to, FitsService, is_same_context, has_handles, keeps_lists, fits_names, are_names, keeps_code, keeps_pages, keeps_made, keeps_size, keeps_run, keeps_place, fits_kept, fits_service, FitsServices, IsAtEvent, HasConsoles, FitsSettledObjects, FitsWorld}
 use Rattle.libos_state.proofs.Once.{has_handles_once-fits, has_handles_once-none, has_handles_once-served}
 
 -- ---- tests and what they tell
@@ -149,11 +149,6 @@ Decides-keeps_size c (n ∷ []) same = Decides-like (keeps_size c (n ∷ []))
 Decides-keeps_size c (n ∷ m ∷ ns) same =
     (λ e. absurd (true≢false (sym e)), λ (k : KeepsSize c). absurd (let e : n ∷ m ∷ ns ≡ k.size ∷ [] = sym same ∙ k.kept in cc))
 
-Decides-zero_alone : (ns : List ℕ) → Decides (is_zero_alone ns) (ns ≡ 0 ∷ [])
-Decides-zero_alone [] = (λ e. absurd (true≢false (sym e)), λ e. absurd (cc))
-Decides-zero_alone (n ∷ []) = Decides-like (n == 0) (λ e. ap (λ m. m ∷ []) e) (λ e. cc) (Decides-eqb n 0)
-Decides-zero_alone (n ∷ m ∷ ns) = (λ e. absurd (true≢false (sym e)), λ e. absurd (cc))
-
 Decides-absent : (x : Option ElfError) → Decides (not (is_some x)) (x ≡ None)
 Decides-absent None = (λ _. refl, λ _. refl)
 Decides-absent (Some cause) = (λ e. absurd (true≢false (sym e)), λ e. absurd (cc))
@@ -185,7 +180,9 @@ Decides-fits_kept : (os : LibOs) (c : Cont) (stage : Stage) → Decides (fits_ke
 Decides-fits_kept os c CloseStream = is_true (closes_new os c)
 Decides-fits_kept os c CloseHandles = Decides-keeps_code os c c.numbers refl
 Decides-fits_kept os c ExitProcess = Decides-keeps_code os c c.numbers refl
-Decides-fits_kept os c WriteStream = Decides-and _ _ (Decides-zero_alone c.numbers) (Decides-eqb (length c.bytes) (moved (register (upcall_in c.event).context 12)))
+Decides-fits_kept os c StoreBytes = Decides-leb (length c.bytes) (most_stored (upcall_in c.event))
+Decides-fits_kept os c AppendLength = Decides-eqb (length c.bytes) (moved (register (upcall_in c.event).context 12))
+Decides-fits_kept os c WriteStream = Decides-and _ _ (is_true (writes_at os c)) (Decides-eqb (length c.bytes) (moved (register (upcall_in c.event).context 12)))
 Decides-fits_kept os c AllocatePages = Decides-keeps_made c (is_brk c)
 Decides-fits_kept os c FreePages = Decides-leb 1 (number c 1)
 Decides-fits_kept os c ProtectPages = Decides-leb 1 (number c 1)

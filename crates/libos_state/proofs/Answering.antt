@@ -1,27 +1,28 @@
 -- What the stages owe, collected: the answered library OS keeps what it stands for.
-use Rattle.std.specs.Prelude.{◌≡◌, ℕ, Bool, true, false, if◌then◌else◌, cond}
+use Rattle.std.specs.Prelude.{◌≡◌, ℕ, Bool, true, false, if◌then◌else◌, cond, length}
 use Rattle.std.specs.declared.option.Option.{Option}
 use Rattle.std.specs.declared.option.Option.TheVariants.{None, Some}
 use Rattle.std.proofs.Common.{refl, subst, ◌∙◌}
 use Rattle.abi_calls.specs.declared.call.Call.{Call}
 use Rattle.abi_calls.specs.declared.reply.Reply.{Reply}
-use Rattle.abi_calls.specs.declared.reply.Reply.TheVariants.{Done, Bytes, Count, Exists, BadAddress, NoAccess, NoRoom}
+use Rattle.abi_calls.specs.declared.reply.Reply.TheVariants.{Done, Bytes, Count, Length, Exists, BadAddress, NoAccess, NoRoom, TooBig}
 use Rattle.abi_calls.specs.Sound.{IsSound}
 use Rattle.mono_model.specs.Machine.{register}
-use Rattle.mono_model.specs.Calls.{ENOMEM, EINVAL, DUP3}
+use Rattle.mono_model.specs.Calls.{ENOMEM, EINVAL, DUP3, advanced}
+use Rattle.mono_model.specs.FileCalls.{READ, sought}
 use Rattle.libos_state.specs.declared.cont.Cont.{Cont}
 use Rattle.libos_state.specs.declared.cont.Stage.{Stage}
-use Rattle.libos_state.specs.declared.cont.Stage.TheVariants.{SetContext, Resume, CloseEvent, ExitThread, CloseHandles, ExitProcess, ReadBuffer, WriteStream, AllocatePages, FreePages, ProtectPages, CloseStream}
+use Rattle.libos_state.specs.declared.cont.Stage.TheVariants.{SetContext, Resume, CloseEvent, ExitThread, CloseHandles, ExitProcess, ReadBuffer, WriteStream, ReadStream, StoreBytes, AppendLength, FileLength, SetFileLength, AllocatePages, FreePages, ProtectPages, CloseStream}
 use Rattle.libos_state.specs.declared.state.Boot.TheVariants.{Going, Up}
 use Rattle.libos_state.specs.declared.notes.Description.{Description}
 use Rattle.libos_state.specs.declared.state.LibOs.{LibOs}
-use Rattle.libos_state.specs.Records.{View, visible, description_with, description_behind, pid_with}
-use Rattle.libos_state.specs.declared.step.Change.TheVariants.{Same, MovesBreak, Closes, Replaces}
+use Rattle.libos_state.specs.Records.{View, visible, description_with, description_behind, pid_with, is_file}
+use Rattle.libos_state.specs.declared.step.Change.TheVariants.{Same, MovesPosition, MovesBreak, Closes, Replaces}
 use Rattle.libos_state.specs.declared.step.Step.{Step}
 use Rattle.libos_state.specs.declared.step.Step.TheVariants.{GivesBreak, Ends}
-use Rattle.libos_state.specs.Pending.{asked, asked_by, is_brk, upcall_in, handle}
-use Rattle.libos_state.specs.Answered.{with_step, with_change, mapping_step, changed_step, answered, answered_at, answered_in, duplicated, closing_change}
-use Rattle.libos_state.specs.Descriptors.{without_description, without_stream}
+use Rattle.libos_state.specs.Pending.{asked, asked_by, is_brk, upcall_in, handle, number, argument}
+use Rattle.libos_state.specs.Answered.{with_step, with_change, mapping_step, changed_step, answered, answered_at, answered_in, duplicated, closing_change, puts_position, store_change, seek_change, length_change, is_lseek}
+use Rattle.libos_state.specs.Descriptors.{without_description, without_stream, with_position, positioned, moved_over}
 use Rattle.libos_state.specs.Meaning.{meaning, meant}
 use Rattle.libos_state.specs.Fits.{Fits, FitsStage, FitsCont, is_of_start, is_call}
 use Rattle.libos_state.specs.Laws.{Keeps, KeepsMeaning}
@@ -72,6 +73,35 @@ closed_boot os c =
       | false ↦ gone
     ]
 
+positioned_boot : (os : LibOs) (position : ℕ) (x : Option Description) → (positioned os position x).boot ≡ os.boot
+positioned_boot os position None = refl
+positioned_boot os position (Some d) = elim (is_file d.kind) as (λ b. (cond b (with_position os d.id position) os).boot ≡ os.boot) [ true ↦ refl | false ↦ refl ]
+
+put_boot : (os : LibOs) (c : Cont) (position : ℕ) → (with_change os (puts_position c position)).boot ≡ os.boot
+put_boot os c position = positioned_boot os position (description_behind os (upcall_in c.event).process (argument c 0))
+
+moved_over_boot : (os : LibOs) (count : ℕ) (x : Option Description) → (moved_over os count x).boot ≡ os.boot
+moved_over_boot os count None = refl
+moved_over_boot os count (Some d) = positioned_boot os (advanced d.position count) (Some d)
+
+stored_boot : (os : LibOs) (c : Cont) → (with_change os (store_change c)).boot ≡ os.boot
+stored_boot os c =
+    let u = upcall_in c.event in
+    elim (is_call u READ) as (λ b. (with_change os (cond b (MovesPosition u.process (argument c 0) (length c.bytes)) Same)).boot ≡ os.boot) [
+      | true ↦ moved_over_boot os (length c.bytes) (description_behind os u.process (argument c 0))
+      | false ↦ refl
+    ]
+
+sought_boot : (os : LibOs) (c : Cont) (at : Option ℕ) → (with_change os (seek_change c at)).boot ≡ os.boot
+sought_boot os c None = refl
+sought_boot os c (Some at) = put_boot os c at
+
+length_boot : (os : LibOs) (c : Cont) (size : ℕ) → (with_change os (length_change c size)).boot ≡ os.boot
+length_boot os c size = elim (is_lseek c) as (λ b. (with_change os (cond b (seek_change c (sought size (argument c 1))) Same)).boot ≡ os.boot) [
+  | true ↦ sought_boot os c (sought size (argument c 1))
+  | false ↦ refl
+]
+
 -- A service on a trap leaves how far the start is.
 boot_stays : (os : LibOs) (c : Cont) (stage : Stage) (r : Reply) → is_of_start stage ≡ false
     → (answered_at os c stage r).boot ≡ os.boot
@@ -90,8 +120,22 @@ boot_stays os c ReadBuffer (Bytes bytes) other = refl
 boot_stays os c ReadBuffer BadAddress other = refl
 boot_stays os c ReadBuffer NoAccess other = refl
 boot_stays os c ReadBuffer _ other = refl
-boot_stays os c WriteStream (Count n) other = refl
+boot_stays os c ReadStream (Bytes bytes) other = refl
+boot_stays os c ReadStream _ other = refl
+boot_stays os c StoreBytes Done other = stored_boot os c
+boot_stays os c StoreBytes BadAddress other = refl
+boot_stays os c StoreBytes NoAccess other = refl
+boot_stays os c StoreBytes _ other = refl
+boot_stays os c AppendLength (Length size) other = refl
+boot_stays os c AppendLength _ other = refl
+boot_stays os c WriteStream (Count n) other = put_boot os c (advanced (number c 0) n)
+boot_stays os c WriteStream TooBig other = refl
 boot_stays os c WriteStream _ other = refl
+boot_stays os c FileLength (Length size) other = length_boot os c size
+boot_stays os c FileLength _ other = refl
+boot_stays os c SetFileLength Done other = refl
+boot_stays os c SetFileLength TooBig other = refl
+boot_stays os c SetFileLength _ other = refl
 boot_stays os c AllocatePages Done other = moved_boot os c (is_brk c) _ _ (mapping_step c Done) refl
 boot_stays os c AllocatePages Exists other = given_boot os c (is_brk c) (mapping_step c Exists) refl
 boot_stays os c AllocatePages NoRoom other = given_boot os c (is_brk c) (mapping_step c NoRoom) refl

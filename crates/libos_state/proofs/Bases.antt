@@ -19,12 +19,17 @@ use Rattle.bas_items.proofs.NumberMaps.{get-empty, get-insert, get-insert-same, 
 use Rattle.mono_model.specs.Machine as mono
 use Rattle.mono_model.specs.Machine.{Mono, Target, Gone, Waiter, code_in, process_at, thread_at, with_memory_in, with_context, with_registers, is_woken, made_ready}
 use Rattle.mono_model.specs.Calls.{description_of, described_by, described_in}
+use Rattle.bas_names.specs.declared.StreamName.TheVariants as stream
+use Rattle.libos_state.specs.declared.notes.Kind.{Kind}
+use Rattle.libos_state.specs.declared.notes.Kind.TheVariants.{ConIn, ConOut, ConErr}
+use Rattle.libos_state.specs.declared.notes.Kind.TheVariants as kind
+use Rattle.libos_state.specs.declared.notes.Description.{Description}
 use Rattle.libos_state.specs.declared.notes.DescriptorNote.{DescriptorNote}
 use Rattle.libos_state.specs.declared.notes.ProcessNote.{ProcessNote}
 use Rattle.libos_state.specs.declared.notes.ThreadNote.{ThreadNote}
 use Rattle.libos_state.specs.declared.state.LibOs.{LibOs}
 use Rattle.libos_state.specs.Records as records
-use Rattle.libos_state.specs.Records.{Visible, with_visible, base, process_named, process_with, thread_named, thread_with, thread_woken_by, description_with, description_named, described, descriptor_named, description_behind, description_seen, memory_of_object, context_of, is_set, process_if, process_seen, thread_seen, processes_of, threads_of, descriptions_of, tids_of, tid_of, target_of, target_by, waiter_of, lists_of, code_of, exit_code}
+use Rattle.libos_state.specs.Records.{Visible, with_visible, base, process_named, process_with, thread_named, thread_with, thread_woken_by, description_with, description_named, described, descriptor_named, description_behind, description_seen, memory_of_object, context_of, is_set, process_if, process_seen, thread_seen, file_seen, stream_seen, processes_of, threads_of, descriptions_of, tids_of, tid_of, target_of, target_by, waiter_of, lists_of, code_of, exit_code}
 use Rattle.libos_state.specs.Named.{recorded, times_named}
 use Rattle.libos_state.specs.Fits.{FitsRecords, is_none, is_fit_process}
 use Rattle.libos_state.proofs.Distinct.{find-key}
@@ -81,30 +86,30 @@ pub exit_code-base : (os : LibOs) (w : Visible) → mono.exit_code (base os w) 1
 exit_code-base os w = exit_code_at-base os w 1
 
 -- A descriptor names in the machine what it names in the records.
-description_at : (os : LibOs) (w : Visible) (d : Option DescriptorNote) → described_by (base os w) (option_map (λ n. n.description) d) ≡ option_map description_seen (described os.descriptions d)
+description_at : (os : LibOs) (w : Visible) (d : Option DescriptorNote) → described_by (base os w) (option_map (λ n. n.description) d) ≡ option_map (description_seen w.objects.live) (described os.descriptions d)
 description_at os w None = refl
-description_at os w (Some d) = get-mapped (λ n. n.id) description_seen os.descriptions d.description
+description_at os w (Some d) = get-mapped (λ n. n.id) (description_seen w.objects.live) os.descriptions d.description
 
 pub none_are : {A : Type 0} (xs : List A) → is_none xs ≡ true → xs ≡ []
 none_are [] none = refl
 none_are (x ∷ xs) none = absurd (cc)
 
 described_open : (os : LibOs) (w : Visible) (fd : ℕ) (memory : Space) (n : ProcessNote) (code : Option ℕ) → (not (is_some code) || is_none n.descriptors) ≡ true →
-    described_in (base os w) fd (Some (process_if n memory code)) ≡ option_map description_seen (described os.descriptions (descriptor_named fd n.descriptors))
+    described_in (base os w) fd (Some (process_if n memory code)) ≡ option_map (description_seen w.objects.live) (described os.descriptions (descriptor_named fd n.descriptors))
 described_open os w fd memory n None none =
     ap (described_by (base os w)) (get-mapped (λ d. d.number) (λ d. d.description) n.descriptors fd) ∙ description_at os w (descriptor_named fd n.descriptors)
 described_open os w fd memory n (Some code) none =
     ap (described_by (base os w)) (get-empty fd)
-    ∙ sym (ap (λ ds. option_map description_seen (described os.descriptions (descriptor_named fd ds))) (none_are n.descriptors none))
+    ∙ sym (ap (λ ds. option_map (description_seen w.objects.live) (described os.descriptions (descriptor_named fd ds))) (none_are n.descriptors none))
 
 pub description_of-base : (os : LibOs) (w : Visible) (h fd : ℕ) (n : ProcessNote) → FitsRecords os → process_with h os.processes ≡ Some n →
-    description_of (base os w) n.pid fd ≡ option_map description_seen (description_behind os h fd)
+    description_of (base os w) n.pid fd ≡ option_map (description_seen w.objects.live) (description_behind os h fd)
 description_of-base os w h fd n fits is =
     let fit = list_all-find (is_fit_process os) (λ (m : ProcessNote). m.handle == h) os.processes n fits.processes is in
     let none = and_parts _ (not (is_some n.code) || is_none n.descriptors) (and_parts _ _ fit).1 in
     ap (described_in (base os w) fd) (process_at-found os w h n fits is)
     ∙ described_open os w fd (memory_of_object (get {R = nat_cmp} w.objects.live n.handle)) n n.code none.1
-    ∙ sym (ap (λ x. option_map description_seen (records.described_in os fd x)) is)
+    ∙ sym (ap (λ x. option_map (description_seen w.objects.live) (records.described_in os fd x)) is)
 
 -- ---- what is recorded
 
@@ -124,6 +129,11 @@ module _ (os : LibOs) where
   recorded-event test n is =
       let there = count_by-found test (λ m. m.event == n.event) os.threads n is (eq-eqb n.event n.event refl) in
       omega (arith, there, times_named-recorded n.event os)
+
+  pub recorded-description : (test : Description → Bool) (d : Description) → find test os.descriptions ≡ Some d → 1 ≤ times_named d.handle (recorded os)
+  recorded-description test d is =
+      let there = count_by-found test (λ e. e.handle == d.handle) os.descriptions d is (eq-eqb d.handle d.handle refl) in
+      omega (arith, there, times_named-recorded d.handle os)
 
 -- A record with a number in one list, and one with it in another, are counted each.
 both_counted : {N M : Type 0} (key : N → ℕ) (other : M → ℕ) (h : ℕ) (ns : List N) (ms : List M) (n : N) → find (λ j. key j == h) ns ≡ Some n
@@ -145,6 +155,11 @@ module _ (os : LibOs) (h : ℕ) (n : ThreadNote) (once : times_named h (recorded
       let both = both_counted (λ j. j.handle) (λ j. j.event) h os.threads os.threads n is test m there same in
       omega (arith, both.0, both.1, times_named-recorded h os)
 
+  pub thread-no_description : (test : Description → Bool) (d : Description) → find test os.descriptions ≡ Some d → d.handle ≢ h
+  thread-no_description test d there same =
+      let both = both_counted (λ j. j.handle) (λ j. j.handle) h os.threads os.descriptions n is test d there same in
+      omega (arith, both.0, both.1, times_named-recorded h os)
+
   pub thread-alone : (test : ThreadNote → Bool) (m : ThreadNote) → find test os.threads ≡ Some m → m.handle ≡ h → m ≡ n
   thread-alone test m there same =
       let found : thread_with h os.threads ≡ Some m = find-alone test (λ j. j.handle == h) os.threads m there (eq-eqb m.handle h same) (omega (arith, times_named-recorded h os)) in
@@ -160,6 +175,11 @@ module _ (os : LibOs) (h : ℕ) (n : ProcessNote) (once : times_named h (recorde
   pub process-no_event : (test : ThreadNote → Bool) (m : ThreadNote) → find test os.threads ≡ Some m → m.event ≢ h
   process-no_event test m there same =
       let both = both_counted (λ j. j.handle) (λ j. j.event) h os.processes os.threads n is test m there same in
+      omega (arith, both.0, both.1, times_named-recorded h os)
+
+  pub process-no_description : (test : Description → Bool) (d : Description) → find test os.descriptions ≡ Some d → d.handle ≢ h
+  process-no_description test d there same =
+      let both = both_counted (λ j. j.handle) (λ j. j.handle) h os.processes os.descriptions n is test d there same in
       omega (arith, both.0, both.1, times_named-recorded h os)
 
   pub process-alone : (test : ProcessNote → Bool) (m : ProcessNote) → find test os.processes ≡ Some m → m.handle ≡ h → m ≡ n
@@ -186,6 +206,22 @@ threads_of-kept notes live live' same = same_numbers _ _ (λ q. get-mapped (λ n
     ∙ option_map-same (thread_seen live') (thread_seen live) (thread_named q notes) (same q)
     ∙ sym (get-mapped (λ n. n.tid) (thread_seen live) notes q))
 
+pub descriptions_of-kept : (notes : List Description) (live live' : Live) → ((q : ℕ) (d : Description) → description_named q notes ≡ Some d → description_seen live' d ≡ description_seen live d)
+    → descriptions_of notes live' ≡ descriptions_of notes live
+descriptions_of-kept notes live live' same = same_numbers _ _ (λ q. get-mapped (λ d. d.id) (description_seen live') notes q
+    ∙ option_map-same (description_seen live') (description_seen live) (description_named q notes) (same q)
+    ∙ sym (get-mapped (λ d. d.id) (description_seen live) notes q))
+
+-- A description is seen as before where its object still has the file's name.
+pub description_seen-kept : (live live' : Live) (d : Description) → file_seen (get {R = nat_cmp} live' d.handle) ≡ file_seen (get {R = nat_cmp} live d.handle) → description_seen live' d ≡ description_seen live d
+description_seen-kept live live' d same = λ i. record { stream = kind_seen d.kind i; access = d.access; append = d.append; position = d.position }
+  where
+    kind_seen : (k : Kind) → stream_seen k (get {R = nat_cmp} live' d.handle) ≡ stream_seen k (get {R = nat_cmp} live d.handle)
+    kind_seen ConIn = refl
+    kind_seen ConOut = refl
+    kind_seen ConErr = refl
+    kind_seen kind.File = ap stream.File same
+
 process_seen-kept : (live live' : Live) (n : ProcessNote) → get {R = nat_cmp} live' n.handle ≡ get {R = nat_cmp} live n.handle → process_seen live' n ≡ process_seen live n
 process_seen-kept live live' n same = ap (λ x. process_if n (memory_of_object x) n.code) same
 
@@ -201,7 +237,9 @@ base-live os w live same =
     (λ q n is. process_seen-kept w.objects.live live n (same n.handle (recorded-process os (λ m. m.pid == q) n is))) in
     let ts = threads_of-kept os.threads w.objects.live live
     (λ q n is. thread_seen-kept w.objects.live live n (same n.handle (recorded-thread os (λ m. m.tid == q) n is)) (same n.event (recorded-event os (λ m. m.tid == q) n is))) in
-    λ i. record (base os w) { processes = ps i; threads = ts i }
+    let ds = descriptions_of-kept os.descriptions w.objects.live live
+    (λ q d is. description_seen-kept w.objects.live live d (ap file_seen (same d.handle (recorded-description os (λ e. e.id == q) d is)))) in
+    λ i. record (base os w) { processes = ps i; threads = ts i; descriptions = ds i }
 
 -- A thread gets other registers.
 module _ (os : LibOs) (w : Visible) (h p : ℕ) (n : ThreadNote) (context : Context) (fits : FitsRecords os) (once : times_named h (recorded os) ≤ 1) (is : thread_with h os.threads ≡ Some n) where
@@ -245,7 +283,9 @@ module _ (os : LibOs) (w : Visible) (h p : ℕ) (n : ThreadNote) (context : Cont
   base-with_context =
       let ps = processes_of-kept os.processes w.objects.live now
       (λ q m there. process_seen-kept w.objects.live now m (stays m.handle (thread-no_process os h n once is (λ j. j.pid == q) m there))) in
-      λ i. record (base os w) { processes = ps i; threads = threads_now i }
+      let ds = descriptions_of-kept os.descriptions w.objects.live now
+      (λ q d there. description_seen-kept w.objects.live now d (ap file_seen (stays d.handle (thread-no_description os h n once is (λ j. j.id == q) d there)))) in
+      λ i. record (base os w) { processes = ps i; threads = threads_now i; descriptions = ds i }
 
 -- A process that hasn't exited gets another memory.
 module _ (os : LibOs) (w : Visible) (h : ℕ) (n : ProcessNote) (s : Space) (fits : FitsRecords os) (once : times_named h (recorded os) ≤ 1) (is : process_with h os.processes ≡ Some n)
@@ -291,7 +331,9 @@ module _ (os : LibOs) (w : Visible) (h : ℕ) (n : ProcessNote) (s : Space) (fit
       let ts = threads_of-kept os.threads w.objects.live now_running
       (λ q m there. thread_seen-kept w.objects.live now_running m
       (others_stay m.handle (process-no_thread os h n once is (λ j. j.tid == q) m there)) (others_stay m.event (process-no_event os h n once is (λ j. j.tid == q) m there))) in
-      (λ i. record (base os w) { processes = processes_now i; threads = ts i })
+      let ds = descriptions_of-kept os.descriptions w.objects.live now_running
+      (λ q d there. description_seen-kept w.objects.live now_running d (ap file_seen (others_stay d.handle (process-no_description os h n once is (λ j. j.id == q) d there)))) in
+      (λ i. record (base os w) { processes = processes_now i; threads = ts i; descriptions = ds i })
       ∙ sym (ap (with_memory_in (base os w) n.pid s) (process_at-found os w h n fits is))
 
 -- ---- lists

@@ -25,7 +25,7 @@ use Rattle.libos_state.specs.Records.{View, Visible, visible, with_visible, base
 use Rattle.libos_state.specs.Pending.{asked, handle, program_in, file_or_child}
 use Rattle.libos_state.specs.Answered.{answered_at, first_thread}
 use Rattle.libos_state.specs.Meaning.{settles, unstarted, child_memory, child_context}
-use Rattle.libos_state.specs.Named.{Named, AProcess, AThread, AnEvent, AConsole, is_of, recorded, named_as, kinds_at, times_named}
+use Rattle.libos_state.specs.Named.{Named, AProcess, AThread, AnEvent, AStreamOf, is_of, recorded, named_as, kinds_at, times_named}
 use Rattle.libos_state.specs.Fits.{FitsStage, FitsObjects, FitsRecords, is_to_name}
 use Rattle.libos_state.proofs.Alone.{Decides-fits_records}
 use Rattle.libos_state.proofs.Holds.{HoldsQuietly}
@@ -42,8 +42,8 @@ use Rattle.libos_state.proofs.Views.{AnswersAs, answer, on_objects, with_objects
 -- The ends of the console, and what the start has made, of six handles.
 abbrev ends_of : List ℕ → List Named
 ends_of hs =
-    (slice_index hs 0, AConsole ConIn) ∷ (slice_index hs 1, AConsole ConOut) ∷
-    (slice_index hs 2, AConsole ConErr) ∷ []
+    (slice_index hs 0, AStreamOf ConIn) ∷ (slice_index hs 1, AStreamOf ConOut) ∷
+    (slice_index hs 2, AStreamOf ConErr) ∷ []
 
 abbrev made_of : List ℕ → List Named
 made_of hs =

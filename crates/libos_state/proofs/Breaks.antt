@@ -28,7 +28,7 @@ use Rattle.libos_state.specs.Breaks.{break_of, note_with_break, with_break}
 use Rattle.libos_state.specs.Pending.{argument, upcall_in}
 use Rattle.libos_state.specs.Answered.{gives_break}
 use Rattle.libos_state.specs.Meaning.{caller_in, leads_to}
-use Rattle.libos_state.specs.Named.{Named, AProcess, AThread, AnEvent, AConsole, is_of, recorded, times_named}
+use Rattle.libos_state.specs.Named.{Named, AProcess, AThread, AnEvent, AStreamOf, is_of, recorded, times_named}
 use Rattle.libos_state.specs.Fits.{FitsRecords, FitsObjects, FitsEvent, FitsTrap, are_distinct, is_fit_process, is_fit_parent, is_alive, is_given, handle_in, has_code}
 use Rattle.libos_state.proofs.Bases.{get-mapped, process_at-found, process-alone}
 use Rattle.libos_state.proofs.Callers.{behind_process, caller_pid}
@@ -99,7 +99,7 @@ module _ (handle address : ℕ) where
 
     recorded_same : recorded moved ≡ recorded os
     recorded_same = ap (λ (names : List Named). names ++
-        (map (λ n. (n.handle, AThread)) os.threads ++ (map (λ n. (n.event, AnEvent)) os.threads ++ map (λ d. (d.handle, AConsole d.kind)) os.descriptions)))
+        (map (λ n. (n.handle, AThread)) os.threads ++ (map (λ n. (n.event, AnEvent)) os.threads ++ map (λ d. (d.handle, AStreamOf d.kind)) os.descriptions)))
         (map_kept (λ n. (n.handle, AProcess)) (λ n. refl) os.processes)
 
     handle_same : (q : ℕ) → handle_in (process_named q moved.processes) ≡ handle_in (process_named q os.processes)

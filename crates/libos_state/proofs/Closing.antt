@@ -20,7 +20,7 @@ use Rattle.libos_state.specs.declared.notes.ThreadNote.{ThreadNote}
 use Rattle.libos_state.specs.declared.state.LibOs.{LibOs}
 use Rattle.libos_state.specs.Records.{process_named, process_with, thread_with, pid_of, pid_with}
 use Rattle.libos_state.specs.Entered.{is_open_without, opened_alone, streams_behind, handles_of, note_ended, without_process}
-use Rattle.libos_state.specs.Named.{Named, AProcess, AThread, AnEvent, AConsole, ToClose, is_of, recorded, times_named}
+use Rattle.libos_state.specs.Named.{Named, AProcess, AThread, AnEvent, AStreamOf, ToClose, is_of, recorded, times_named}
 use Rattle.libos_state.specs.Fits.{FitsRecords, FitsObjects, is_to_name, is_code, has_code, handle_in, is_home}
 use Rattle.libos_state.proofs.Distinct.{some_of, find-key}
 use Rattle.libos_state.proofs.Naming.{is_named, find-passes, count_by-cons, count_by-found, list_all-except, times_named-append, times_named-map, times_named-recorded, times_recorded-most, KindsRecorded, kinds-lists, Linked, linked-found, Trapped, thread_of}
@@ -93,7 +93,7 @@ module _ (p code : ℕ) where
   handle_in-ended (Some n) = note_ended-handle p code n
 
 -- what can be closed
-console_closable : (kind : Kind) (x : Option Object) → is_of (AConsole kind) x ≡ true → is_of ToClose x ≡ true
+console_closable : (kind : Kind) (x : Option Object) → is_of (AStreamOf kind) x ≡ true → is_of ToClose x ≡ true
 console_closable kind None is = absurd (cc)
 console_closable kind (Some (Process memory code)) is = absurd (cc)
 console_closable kind (Some (Thread p context)) is = absurd (cc)
@@ -244,20 +244,20 @@ module _ (os : LibOs) (o : Objects) (u : Upcall) (at : Trapped os o u) (code : �
       ∙ list_all-filter (λ (n : ThreadNote). not (n.pid == p)) (λ n. is_of AThread (object_at o n.handle)) (λ n. is_of AThread (object_at o n.handle)) (λ n keeps is. is) os.threads kinds.threads in
       let events : all (map (λ n. (n.event, AnEvent)) ts) = folds.list_all-map test (λ (n : ThreadNote). (n.event, AnEvent)) ts
       ∙ list_all-filter (λ (n : ThreadNote). not (n.pid == p)) (λ n. is_of AnEvent (object_at o n.event)) (λ n. is_of AnEvent (object_at o n.event)) (λ n keeps is. is) os.threads kinds.events in
-      let descriptions : all (map (λ d. (d.handle, AConsole d.kind)) ds) = folds.list_all-map test (λ (d : Description). (d.handle, AConsole d.kind)) ds
-      ∙ list_all-filter (λ (d : Description). is_open_without os p d.id) (λ d. is_of (AConsole d.kind) (object_at o d.handle)) (λ d. is_of (AConsole d.kind) (object_at o d.handle)) (λ d keeps is. is) os.descriptions kinds.descriptions in
+      let descriptions : all (map (λ d. (d.handle, AStreamOf d.kind)) ds) = folds.list_all-map test (λ (d : Description). (d.handle, AStreamOf d.kind)) ds
+      ∙ list_all-filter (λ (d : Description). is_open_without os p d.id) (λ d. is_of (AStreamOf d.kind) (object_at o d.handle)) (λ d. is_of (AStreamOf d.kind) (object_at o d.handle)) (λ d keeps is. is) os.descriptions kinds.descriptions in
       let closes : ℕ → Bool = λ k. is_of ToClose (object_at o k) in
       let first : list_all closes streams ≡ true = list_all-streams_behind closes os.descriptions (opened_alone os p)
-      (list_all-weaker (λ (d : Description). is_of (AConsole d.kind) (object_at o d.handle)) (λ d. closes d.handle) (λ d is. console_closable d.kind (object_at o d.handle) is) os.descriptions kinds.descriptions) in
+      (list_all-weaker (λ (d : Description). is_of (AStreamOf d.kind) (object_at o d.handle)) (λ d. closes d.handle) (λ d is. console_closable d.kind (object_at o d.handle) is) os.descriptions kinds.descriptions) in
       let second : list_all closes (map (λ (n : ThreadNote). n.event) ended) ≡ true = folds.list_all-map closes (λ (n : ThreadNote). n.event) ended
       ∙ list_all-filter (λ (n : ThreadNote). n.pid == p) (λ n. is_of AnEvent (object_at o n.event)) (λ n. closes n.event) (λ n keeps is. event_closable (object_at o n.event) is) os.threads kinds.events in
       let handles : all (to_close (handles_of os p)) = folds.list_all-map test (λ k. (k, ToClose)) (handles_of os p)
       ∙ list_all-append closes streams (map (λ (n : ThreadNote). n.event) ended)
       ∙ and_from (list_all closes streams) (list_all closes (map (λ (n : ThreadNote). n.event) ended)) first second in
       join (recorded after) (to_close (handles_of os p))
-      (join (map (λ n. (n.handle, AProcess)) ps) (map (λ n. (n.handle, AThread)) ts ++ (map (λ n. (n.event, AnEvent)) ts ++ map (λ d. (d.handle, AConsole d.kind)) ds)) processes
-      (join (map (λ n. (n.handle, AThread)) ts) (map (λ n. (n.event, AnEvent)) ts ++ map (λ d. (d.handle, AConsole d.kind)) ds) threads
-      (join (map (λ n. (n.event, AnEvent)) ts) (map (λ d. (d.handle, AConsole d.kind)) ds) events descriptions))) handles
+      (join (map (λ n. (n.handle, AProcess)) ps) (map (λ n. (n.handle, AThread)) ts ++ (map (λ n. (n.event, AnEvent)) ts ++ map (λ d. (d.handle, AStreamOf d.kind)) ds)) processes
+      (join (map (λ n. (n.handle, AThread)) ts) (map (λ n. (n.event, AnEvent)) ts ++ map (λ d. (d.handle, AStreamOf d.kind)) ds) threads
+      (join (map (λ n. (n.event, AnEvent)) ts) (map (λ d. (d.handle, AStreamOf d.kind)) ds) events descriptions))) handles
 
   is_home-ended : (n : ThreadNote) → is_home after o n ≡ is_home os o n
   is_home-ended n = ap (λ k. is_thread_of k (object_at o n.handle)) (ap handle_in (process_named-ended p code n.pid os.processes) ∙ handle_in-ended p code (process_named n.pid os.processes))

@@ -202,15 +202,15 @@ module _ (os : LibOs) (v : Visible) (id : ℕ) (once : (h : ℕ) → times_named
     | false ↦ λ other. find-kept others (λ d. d.id == q) os.descriptions (λ d is. ap (λ k. not (k == id)) (eqb-true d.id q is) ∙ ap not other)
   ] refl
 
-  seen_if : (b : Bool) (x : Option Description) → option_map description_seen (cond b None x) ≡ cond b None (option_map description_seen x)
+  seen_if : (b : Bool) (x : Option Description) → option_map (description_seen v.objects.live) (cond b None x) ≡ cond b None (option_map (description_seen v.objects.live) x)
   seen_if true x = refl
   seen_if false x = refl
 
-  descriptions-left : descriptions_of left.descriptions ≡ remove (descriptions_of os.descriptions) id
-  descriptions-left = same_numbers _ _ (λ q. get-mapped (λ d. d.id) description_seen left.descriptions q
-      ∙ ap (option_map description_seen) (description_left q) ∙ seen_if (q == id) (description_named q os.descriptions)
-      ∙ ap (cond (q == id) None) (sym (get-mapped (λ d. d.id) description_seen os.descriptions q))
-      ∙ sym (get-remove (descriptions_of os.descriptions) id q))
+  descriptions-left : descriptions_of left.descriptions v.objects.live ≡ remove (descriptions_of os.descriptions v.objects.live) id
+  descriptions-left = same_numbers _ _ (λ q. get-mapped (λ d. d.id) (description_seen v.objects.live) left.descriptions q
+      ∙ ap (option_map (description_seen v.objects.live)) (description_left q) ∙ seen_if (q == id) (description_named q os.descriptions)
+      ∙ ap (cond (q == id) None) (sym (get-mapped (λ d. d.id) (description_seen v.objects.live) os.descriptions q))
+      ∙ sym (get-remove (descriptions_of os.descriptions v.objects.live) id q))
 
   -- what waits for it waits for what is gone
   described_alone : (h : ℕ) (d : Description) → description_with h os.descriptions ≡ Some d → (process_with h os.processes ≡ None) × (thread_woken_by h os.threads ≡ None)

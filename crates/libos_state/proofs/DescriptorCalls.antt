@@ -39,7 +39,7 @@ use Rattle.libos_state.specs.Answered.{goes_on, duplicated, with_duplicate, with
 use Rattle.libos_state.specs.Entered as entered
 use Rattle.libos_state.specs.Entered.{entered_with, result_of, service_with_stream, is_last, close_entered, dup_entered, dup3_over, dup3_unless, descriptors_in, if_free_descriptor, least_free}
 use Rattle.libos_state.specs.Meaning.{caller_of, leads_to, settles}
-use Rattle.libos_state.specs.Named.{Named, AProcess, AThread, AnEvent, AConsole, is_of, kind_described, closed_name, recorded, times_named}
+use Rattle.libos_state.specs.Named.{Named, AProcess, AThread, AnEvent, AStreamOf, is_of, kind_described, closed_name, recorded, times_named}
 use Rattle.libos_state.specs.Fits.{FitsRecords, FitsObjects, FitsTrap, are_distinct, is_fit_process, is_described, is_call, is_exit_call, is_handle_of, closes_new, closes_one, returns}
 use Rattle.libos_state.specs.Turned.{FitsTrapped}
 use Rattle.libos_state.proofs.Rows.{Stands}
@@ -103,7 +103,7 @@ module _ (os : LibOs) (o : Objects) (d : Description) (h : ℕ) (ids : are_disti
       ] refl
 
   abbrev kept : List Named
-  kept = (h, AConsole d.kind) ∷ []
+  kept = (h, AStreamOf d.kind) ∷ []
 
   abbrev kinds : KindsRecorded os o
   kinds = kinds_recorded os o (kinds-recorded os o [] None fits)
@@ -116,22 +116,22 @@ module _ (os : LibOs) (o : Objects) (d : Description) (h : ℕ) (ids : are_disti
       let processes : all (map (λ n. (n.handle, AProcess)) os.processes) = folds.list_all-map test (λ (n : ProcessNote). (n.handle, AProcess)) os.processes ∙ kinds.processes in
       let threads : all (map (λ n. (n.handle, AThread)) os.threads) = folds.list_all-map test (λ (n : ThreadNote). (n.handle, AThread)) os.threads ∙ kinds.threads in
       let events : all (map (λ n. (n.event, AnEvent)) os.threads) = folds.list_all-map test (λ (n : ThreadNote). (n.event, AnEvent)) os.threads ∙ kinds.events in
-      let descriptions : all (map (λ d. (d.handle, AConsole d.kind)) left.descriptions) = folds.list_all-map test (λ (j : Description). (j.handle, AConsole j.kind)) left.descriptions
-      ∙ list_all-filter others (λ j. is_of (AConsole j.kind) (object_at o j.handle)) (λ j. is_of (AConsole j.kind) (object_at o j.handle)) (λ j _ is. is) os.descriptions kinds.descriptions in
-      let it : all kept = and_from _ true (ap (λ k. is_of (AConsole d.kind) (object_at o k)) (sym handle_is)
-      ∙ list_all-find (λ (j : Description). is_of (AConsole j.kind) (object_at o j.handle)) (λ j. j.handle == h) os.descriptions d kinds.descriptions found) refl in
+      let descriptions : all (map (λ d. (d.handle, AStreamOf d.kind)) left.descriptions) = folds.list_all-map test (λ (j : Description). (j.handle, AStreamOf j.kind)) left.descriptions
+      ∙ list_all-filter others (λ j. is_of (AStreamOf j.kind) (object_at o j.handle)) (λ j. is_of (AStreamOf j.kind) (object_at o j.handle)) (λ j _ is. is) os.descriptions kinds.descriptions in
+      let it : all kept = and_from _ true (ap (λ k. is_of (AStreamOf d.kind) (object_at o k)) (sym handle_is)
+      ∙ list_all-find (λ (j : Description). is_of (AStreamOf j.kind) (object_at o j.handle)) (λ j. j.handle == h) os.descriptions d kinds.descriptions found) refl in
       join (recorded left) kept
-      (join (map (λ n. (n.handle, AProcess)) os.processes) (map (λ n. (n.handle, AThread)) os.threads ++ (map (λ n. (n.event, AnEvent)) os.threads ++ map (λ j. (j.handle, AConsole j.kind)) left.descriptions)) processes
-      (join (map (λ n. (n.handle, AThread)) os.threads) (map (λ n. (n.event, AnEvent)) os.threads ++ map (λ j. (j.handle, AConsole j.kind)) left.descriptions) threads
-      (join (map (λ n. (n.event, AnEvent)) os.threads) (map (λ j. (j.handle, AConsole j.kind)) left.descriptions) events descriptions))) it
+      (join (map (λ n. (n.handle, AProcess)) os.processes) (map (λ n. (n.handle, AThread)) os.threads ++ (map (λ n. (n.event, AnEvent)) os.threads ++ map (λ j. (j.handle, AStreamOf j.kind)) left.descriptions)) processes
+      (join (map (λ n. (n.handle, AThread)) os.threads) (map (λ n. (n.event, AnEvent)) os.threads ++ map (λ j. (j.handle, AStreamOf j.kind)) left.descriptions) threads
+      (join (map (λ n. (n.event, AnEvent)) os.threads) (map (λ j. (j.handle, AStreamOf j.kind)) left.descriptions) events descriptions))) it
 
-  pub FitsObjects-withdrawn : FitsObjects left o ((h, AConsole d.kind) ∷ []) None
+  pub FitsObjects-withdrawn : FitsObjects left o ((h, AStreamOf d.kind) ∷ []) None
   FitsObjects-withdrawn = record {
     once = λ q.
         let same : times_named q (recorded left ++ kept) ≡ times_named q (recorded os ++ []) = omega (
           arith,
           times_named-append q (recorded left) kept,
-          times_named-cons q h (AConsole d.kind) [],
+          times_named-cons q h (AStreamOf d.kind) [],
           times_named-recorded q left,
           times_named-append q (recorded os) [],
           times_named-recorded q os,
@@ -306,14 +306,14 @@ module _ (os : LibOs) (v : Visible) (u : Upcall) (up : os.boot ≡ Up) (fits : F
       let left = without_description os (Some d) in
       let counts : without_stream (goes_on os c) d.handle ≡ record left { cont = Some c } =
       without_description-service os (Some c) (description_with d.handle os.descriptions) ∙ ap (λ x. record (without_description os x) { cont = Some c }) found in
-      let names : ◌≡◌ {A = List Named} ((d.handle, AConsole d.kind) ∷ []) (closed_name os d.handle ∷ []) =
+      let names : ◌≡◌ {A = List Named} ((d.handle, AStreamOf d.kind) ∷ []) (closed_name os d.handle ∷ []) =
       ap (λ x. (d.handle, kind_described x) ∷ []) (sym found) in
       record {
         fits = record {
           records = FitsRecords-with_service os os.boot (Some c) fits.records;
           objects = subst (λ l. FitsObjects l v.objects (closed_name os d.handle ∷ []) None) (sym counts)
               (subst (λ names. FitsObjects (record left { cont = Some c }) v.objects names None) names
-              (FitsObjects-with_service left left.boot (Some c) v.objects ((d.handle, AConsole d.kind) ∷ []) None objects));
+              (FitsObjects-with_service left left.boot (Some c) v.objects ((d.handle, AStreamOf d.kind) ∷ []) None objects));
           event = record { up = up; first = fits.first; current = fits.current; home = fits.home; comes = comes };
           lists = record { next = λ keeps. absurd (cc); names = λ keeps. refl; bytes = λ keeps. refl; handles = refl; later = refl; numbers = refl };
           names = tt;

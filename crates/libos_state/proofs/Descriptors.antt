@@ -17,7 +17,7 @@ use Rattle.libos_state.specs.declared.notes.ThreadNote.{ThreadNote}
 use Rattle.libos_state.specs.declared.state.LibOs.{LibOs}
 use Rattle.libos_state.specs.Records.{process_named, process_with, description_named, descriptor_named, pid_of, pid_with}
 use Rattle.libos_state.specs.Descriptors.{redescribed, with_descriptors, left_by, without_descriptor, joined_by, joined_in, with_descriptor}
-use Rattle.libos_state.specs.Named.{Named, AProcess, AThread, AnEvent, AConsole, recorded}
+use Rattle.libos_state.specs.Named.{Named, AProcess, AThread, AnEvent, AStreamOf, recorded}
 use Rattle.libos_state.specs.Fits.{FitsRecords, FitsObjects, are_distinct, is_none, is_fit_process, is_fit_parent, is_alive, is_fit_access, is_fit_append, is_described, is_given, handle_in, is_home, has_code, is_to_name}
 use Rattle.libos_state.proofs.Distinct.{some_of, find-map, find-key, map-keys, list_any-found, are_distinct-filter}
 use Rattle.libos_state.proofs.Naming.{find-passes, list_all-find, count_by-cons, is_named}
@@ -87,7 +87,7 @@ SameProcesses-redone os f ds = record {
 
 pub recorded-redescribed : (os : LibOs) (f : ProcessNote → List DescriptorNote) → recorded (with_descriptors os f) ≡ recorded os
 recorded-redescribed os f =
-    ap (λ (names : List Named). names ++ (map (λ n. (n.handle, AThread)) os.threads ++ (map (λ n. (n.event, AnEvent)) os.threads ++ map (λ d. (d.handle, AConsole d.kind)) os.descriptions)))
+    ap (λ (names : List Named). names ++ (map (λ n. (n.handle, AThread)) os.threads ++ (map (λ n. (n.event, AnEvent)) os.threads ++ map (λ d. (d.handle, AStreamOf d.kind)) os.descriptions)))
     (map-redescribed f (λ (n : ProcessNote). (n.handle, AProcess)) (λ n. refl) os.processes)
 
 pub FitsObjects-redescribed : (os : LibOs) (f : ProcessNote → List DescriptorNote) (o : Objects) (kept : List Named) (ending : Option ℕ) → FitsObjects os o kept ending

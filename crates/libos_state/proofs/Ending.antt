@@ -22,20 +22,21 @@ use Rattle.bas_items.proofs.NumberMaps.{get-insert, get-insert-same, get-insert-
 use Rattle.mono_model.specs.Starting.{Runs}
 use Rattle.libos_state.specs.declared.cont.Cont.{Cont}
 use Rattle.libos_state.specs.declared.cont.Stage.TheVariants.{CloseHandles, ExitProcess}
+use Rattle.libos_state.specs.declared.notes.Description.{Description}
 use Rattle.libos_state.specs.declared.notes.ProcessNote.{ProcessNote}
 use Rattle.libos_state.specs.declared.notes.ThreadNote.{ThreadNote}
 use Rattle.libos_state.specs.declared.state.LibOs.{LibOs}
-use Rattle.libos_state.specs.Records.{View, Visible, visible, with_visible, base, process_named, process_with, thread_named, process_if, process_seen, thread_seen, memory_of_object, context_of, is_set}
+use Rattle.libos_state.specs.Records.{View, Visible, visible, with_visible, base, process_named, process_with, thread_named, process_if, process_seen, thread_seen, file_seen, description_named, description_seen, memory_of_object, context_of, is_set}
 use Rattle.libos_state.specs.Pending.{asked, upcall_in, handle, number}
 use Rattle.libos_state.specs.Answered.{goes_on, ends, service_closing}
 use Rattle.libos_state.specs.Meaning.{settles, meaning, meant_settled}
-use Rattle.libos_state.specs.Named.{Named, ObjectKind, AProcess, AThread, AnEvent, AConsole, AFile, AStream, ToClose, is_of, recorded, times_named}
+use Rattle.libos_state.specs.Named.{Named, ObjectKind, AProcess, AThread, AnEvent, AStreamOf, AStream, ToClose, is_of, recorded, times_named}
 use Rattle.libos_state.specs.Fits.{FitsRecords, FitsObjects, FitsStage, FitsCont, FitsUp, FitsBoot, FitsEvent, FitsTrap, KeepsCode, is_to_name, is_code, has_code, handle_in, is_home, is_ended_with}
 use Rattle.libos_state.proofs.Holds.{Holds}
 use Rattle.libos_state.proofs.Rows.{Stands, by_row}
 use Rattle.libos_state.proofs.Going.{FitsRecords-with_service, FitsObjects-with_service}
 use Rattle.libos_state.proofs.Naming.{is_named, find-passes, list_all-find, list_all-counted, list_all-except, eqb-flipped, times_recorded, times_named-recorded, times_named-append, times_recorded-most, KindsRecorded, kinds-lists, process_with-found, kinds-kept, unrecorded-kept, unrecorded-free, times_named-cons, FitsObjects-closed, ThreadOf, thread_of, RunningOf, running_of}
-use Rattle.libos_state.proofs.Bases.{processes_of-kept, threads_of-kept, base-without_handles}
+use Rattle.libos_state.proofs.Bases.{processes_of-kept, threads_of-kept, descriptions_of-kept, description_seen-kept, base-without_handles}
 use Rattle.libos_state.proofs.Serving.{trap_of, on_trap, named_as-no_kinds, FitsTrap-with_service}
 use Rattle.libos_state.proofs.Views.{AnswersAs, on_objects}
 
@@ -163,15 +164,14 @@ keeps_close_handles os c w w' r fits sound abi = closes os c w w' r c.handles re
 -- ---- the process exits
 
 -- A process that exits is one still, and nothing else.
-no_console : (kind : Kind) (memory : Space) → is_of (AConsole kind) (Some (Process memory None)) ≡ true → ⊥
+no_console : (kind : Kind) (memory : Space) → is_of (AStreamOf kind) (Some (Process memory None)) ≡ true → ⊥
 no_console kind memory is = cc
 
 exited_kind : (kind : ObjectKind) (memory : Space) (code : ℕ) → is_of kind (Some (Process memory None)) ≡ true → is_of kind (Some (Process empty (Some code))) ≡ true
 exited_kind AProcess memory code is = refl
 exited_kind AThread memory code is = absurd (cc)
 exited_kind AnEvent memory code is = absurd (cc)
-exited_kind (AConsole kind) memory code is = absurd (no_console kind memory is)
-exited_kind AFile memory code is = absurd (cc)
+exited_kind (AStreamOf kind) memory code is = absurd (no_console kind memory is)
 exited_kind AStream memory code is = absurd (cc)
 exited_kind ToClose memory code is = absurd (cc)
 
@@ -359,11 +359,17 @@ module _ (os : LibOs) (c : Cont) (v : Visible) (fits : FitsStage os v.objects c 
       let event_stays = stays_seen n.event (no_process AnEvent n.event refl (list_all-find (λ (m : ThreadNote). is_of AnEvent (object_at v.objects m.event)) (λ m. m.tid == q) os.threads n kinds.events named)) in
       λ i. record { process = n.pid; context = context_of (handle_stays i); woken = is_set (event_stays i); saved = n.saved }
 
+  description_same : (q : ℕ) (d : Description) → description_named q os.descriptions ≡ Some d → description_seen exited.live d ≡ description_seen left.live d
+  description_same q d named =
+      let stays = stays_seen d.handle (no_process (AStreamOf d.kind) d.handle refl (list_all-find (λ (e : Description). is_of (AStreamOf e.kind) (object_at v.objects e.handle)) (λ e. e.id == q) os.descriptions d kinds.descriptions named)) in
+      description_seen-kept left.live exited.live d (ap file_seen stays)
+
   pub exited_base : base os (with_visible v exited) ≡ base os v
   exited_base =
       let ps = processes_of-kept os.processes left.live exited.live process_same in
       let ts = threads_of-kept os.threads left.live exited.live thread_same in
-      (λ i. record (base os (with_visible v left)) { processes = ps i; threads = ts i })
+      let ds = descriptions_of-kept os.descriptions left.live exited.live description_same in
+      (λ i. record (base os (with_visible v left)) { processes = ps i; threads = ts i; descriptions = ds i })
       ∙ base-without_handles os (λ k. is_thread_of p (object_at v.objects k))
       (λ q ends. omega (arith, ends_unrecorded q ends, times_named-append q (recorded os) [])) v
       (unrecorded-free os v.objects [] (Some p) objects_are 0 sound.positive)

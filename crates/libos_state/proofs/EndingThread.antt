@@ -38,7 +38,7 @@ use Rattle.libos_state.specs.Pending.{asked, upcall_in, handle}
 use Rattle.libos_state.specs.Answered.{bare, goes_on, ends, service_leaving}
 use Rattle.libos_state.specs.Entered.{entered_with, has_other_thread, without_thread, ends_thread}
 use Rattle.libos_state.specs.Meaning.{caller_of, leads_to, settles, meant_settled}
-use Rattle.libos_state.specs.Named.{Named, ObjectKind, AProcess, AThread, AnEvent, AConsole, is_of, recorded, named_as, times_named}
+use Rattle.libos_state.specs.Named.{Named, ObjectKind, AProcess, AThread, AnEvent, AStreamOf, is_of, recorded, named_as, times_named}
 use Rattle.libos_state.specs.Fits.{FitsRecords, FitsObjects, FitsStage, FitsUp, FitsBoot, FitsTrap, is_alive, is_given, is_home, is_call}
 use Rattle.libos_state.specs.Turned.{FitsTrapped}
 use Rattle.libos_state.proofs.Holds.{Holds}
@@ -103,13 +103,13 @@ recorded_kinds os o kinds =
     let processes : List Named = map (λ n. (n.handle, AProcess)) os.processes in
     let threads : List Named = map (λ n. (n.handle, AThread)) os.threads in
     let events : List Named = map (λ n. (n.event, AnEvent)) os.threads in
-    let descriptions : List Named = map (λ d. (d.handle, AConsole d.kind)) os.descriptions in
+    let descriptions : List Named = map (λ d. (d.handle, AStreamOf d.kind)) os.descriptions in
     let join : (xs ys : List Named) → list_all test xs ≡ true → list_all test ys ≡ true → list_all test (xs ++ ys) ≡ true =
     λ xs ys first second. list_all-append test xs ys ∙ and_from (list_all test xs) (list_all test ys) first second in
     join processes (threads ++ (events ++ descriptions)) (folds.list_all-map test (λ (n : ProcessNote). (n.handle, AProcess)) os.processes ∙ kinds.processes)
     (join threads (events ++ descriptions) (folds.list_all-map test (λ (n : ThreadNote). (n.handle, AThread)) os.threads ∙ kinds.threads)
     (join events descriptions (folds.list_all-map test (λ (n : ThreadNote). (n.event, AnEvent)) os.threads ∙ kinds.events)
-    (folds.list_all-map test (λ (d : Description). (d.handle, AConsole d.kind)) os.descriptions ∙ kinds.descriptions)))
+    (folds.list_all-map test (λ (d : Description). (d.handle, AStreamOf d.kind)) os.descriptions ∙ kinds.descriptions)))
 
 module _ (os : LibOs) (o : Objects) (u : Upcall) (at : Trapped os o u) (records : FitsRecords os) (fits : FitsObjects os o [] None) where
   abbrev thread : ThreadNote

@@ -13,7 +13,9 @@ use Rattle.abi_calls.specs.Objects.{Objects, object_at}
 use Rattle.mono_model.specs.Machine.{Mono, register, process_at}
 use Rattle.mono_model.specs.declared.breaks.BreakMove.{BreakMove}
 use Rattle.mono_model.specs.declared.breaks.BreakMove.TheVariants.{Grows, Shrinks, Within, Stays}
-use Rattle.mono_model.specs.Calls.{Caller, Served, WRITE, BRK, brk, grow_break, shrink_break, MUNMAP, MMAP, MPROTECT, EBADF, ENOSYS, error, unless_known, munmap_known, munmap, free_pages, mprotect_known, mprotect, protect_pages, mmap_known, mmap, map_from, memory_call, fault_code, finished, silently, ended, description_of, write, write_to, write_from, writable, moved, exit, system_call, served, is_exit, SCHED_YIELD, GETPID, GETPPID, GETTID, parent_in, EXIT, DUP, DUP3, CLOSE, close, dup, dup3_known, dup3, descriptor_call}
+use Rattle.mono_model.specs.Calls.{Caller, Served, WRITE, BRK, brk, grow_break, shrink_break, MUNMAP, MMAP, MPROTECT, EBADF, ENOSYS, error, unless_known, munmap_known, munmap, free_pages, mprotect_known, mprotect, protect_pages, mmap_known, mmap, map_from, finished, silently, ended, description_of, write, write_to, write_from, writable, moved, exit, is_exit, SCHED_YIELD, GETPID, GETPPID, GETTID, parent_in, EXIT, DUP, DUP3, CLOSE, close, dup, dup3_known, dup3}
+use Rattle.mono_model.specs.SystemCalls.{memory_call, fault_code, system_call, served, descriptor_call, file_call}
+use Rattle.mono_model.specs.FileCalls.{READ, LSEEK, FSTAT, FTRUNCATE, read, lseek, fstat, ftruncate}
 use Rattle.mono_model.specs.Mapping.{FIRST_MAPPED, pages_for}
 use Rattle.mono_model.specs.Calls as calls
 use Rattle.mono_model.specs.Starting.{Runs}
@@ -24,21 +26,24 @@ use Rattle.libos_state.specs.declared.notes.Description.{Description}
 use Rattle.libos_state.specs.declared.notes.ProcessNote.{ProcessNote}
 use Rattle.libos_state.specs.declared.state.LibOs.{LibOs}
 use Rattle.libos_state.specs.declared.state.Boot.TheVariants.{Up}
-use Rattle.libos_state.specs.Records.{Visible, with_visible, base, description_behind, description_seen, stream_of_kind, memory_of_object, process_if, process_named, process_with, pid_with, pid_of}
+use Rattle.libos_state.specs.Records.{Visible, with_visible, base, description_behind, description_seen, memory_of_object, process_if, process_named, process_with, pid_with, pid_of}
 use Rattle.libos_state.specs.Breaks.{break_asked, break_goes}
 use Rattle.libos_state.specs.Answered.{goes_on}
-use Rattle.libos_state.specs.Entered.{entered, entered_with, result_of, write_entered, ends_process, call_entered, on_pages, munmap_entered, mmap_entered, mprotect_entered, brk_by, brk_entered, memory_entered, handles_of, note_ended, without_process, parent_of, known_result, has_other_thread, ends_thread, exit_entered, close_entered, dup_entered, dup3_unless, descriptor_entered}
+use Rattle.libos_state.specs.Entered.{entered, entered_with, result_of, write_entered, ends_process, call_entered, on_pages, munmap_entered, mmap_entered, mprotect_entered, brk_by, brk_entered, memory_entered, handles_of, note_ended, without_process, parent_of, known_result, has_other_thread, ends_thread, exit_entered, close_entered, dup_entered, dup3_unless, descriptor_entered, read_entered, lseek_entered, fstat_entered, ftruncate_entered, file_entered}
 use Rattle.libos_state.specs.Meaning.{Meaning, caller_of, leads_to, settles}
 use Rattle.libos_state.specs.Fits.{FitsStage, FitsTrap, KeepsPages, KeepsMade, is_growth, is_shrinking, moves_break, comes_to, is_undecided, is_call, is_recorded, is_writable, is_ended_with, writes, returns, is_exit_call}
 use Rattle.libos_state.specs.Turned.{FitsTrapped, TurnsTo}
 use Rattle.libos_state.specs.Laws.{EntersTurn}
 use Rattle.libos_state.proofs.Rows.{Stands}
 use Rattle.libos_state.proofs.Going.{FitsRecords-with_service, FitsObjects-with_service}
-use Rattle.libos_state.proofs.Naming.{times_named-recorded, times_recorded-most, Trapped, trapped, caller_of-trapped}
-use Rattle.libos_state.proofs.Bases.{description_of-base, process_at-found}
+use Rattle.libos_state.proofs.Naming.{times_named-recorded, times_recorded-most, Trapped, trapped}
+use Rattle.libos_state.proofs.Bases.{process_at-found}
 use Rattle.libos_state.proofs.Breaks.{given_stands, moved_stands}
 use Rattle.libos_state.proofs.Mapping.{munmap_asks, mprotect_asks, mmap_asks}
-use Rattle.libos_state.proofs.Serving.{numbers_fit, result_fits}
+use Rattle.libos_state.proofs.Serving.{numbers_fit}
+use Rattle.libos_state.proofs.EnteredTraps as traps
+use Rattle.libos_state.proofs.ReadEntering.{read_stands}
+use Rattle.libos_state.proofs.FileEntering.{lseek_stands, fstat_stands, ftruncate_stands}
 use Rattle.libos_state.proofs.Writing.{served_write}
 use Rattle.libos_state.proofs.Ending.{closing_fits, closing_means}
 use Rattle.libos_state.proofs.EndingThread.{has_other_thread-base, thread_ends}
@@ -94,32 +99,26 @@ module _ (os : LibOs) (v : Visible) (u : Upcall) (up : os.boot ≡ Up) (fits : F
   abbrev who : Caller
   who = caller_of os u
 
-  home : Trapped os v.objects u
-  home = trapped os v.objects u [] None fits.records fits.objects fits.home fits.recorded
+  abbrev home : Trapped os v.objects u
+  home = traps.home os v u up fits
 
   trap_at : (cont : Option Cont) (stage : Stage) → comes_to os u stage ≡ true → FitsTrap (record os { cont = cont }) v.objects u stage
-  trap_at cont stage comes = record { up = up; first = fits.first; current = fits.current; home = fits.home; comes = comes }
+  trap_at cont stage comes = traps.trap_at os v u up fits cont stage comes
 
   -- a result that is known at once
   result_stands : (result : ℕ) → returns os u ≡ true → Stands (result_of os u result) v (leads_to (silently (finished m who result)))
-  result_stands result goes = record {
-    fits = result_fits os v.objects (entered_with u) result fits.records fits.objects (trap_at (result_of os u result).cont SetContext goes);
-    means = refl;
-  }
+  result_stands result goes = traps.result_stands os v u up fits result goes
 
   -- a call that isn't an exit goes on behind itself
   call_returns : (u.cause == 8) ≡ true → is_exit (register u.context 17) ≡ false → returns os u ≡ true
-  call_returns call other = and_from (u.cause == 8) (not (is_exit_call u) && is_recorded os u) call
-      (and_from (not (is_exit_call u)) (is_recorded os u) (λ i. not (call i && other i)) fits.recorded)
+  call_returns call other = traps.call_returns os v u up fits call other
 
   -- a write of some bytes to a descriptor that is open for writing
   abbrev fd : ℕ
   fd = register u.context 10
 
-  described : description_of m who.process fd ≡ option_map description_seen (description_behind os u.process fd)
-  described =
-      ap (λ (x : Caller). description_of m x.process fd) (caller_of-trapped os v.objects u home)
-      ∙ description_of-base os v u.process fd home.links.process fits.records (ap (λ h. process_with h os.processes) home.process ∙ home.links.behind)
+  described : description_of m who.process fd ≡ option_map (description_seen v.objects.live) (description_behind os u.process fd)
+  described = traps.seen_behind os v u up fits fd
 
   -- the trap of a write
   record IsWrite : Type 0 where
@@ -149,27 +148,27 @@ module _ (os : LibOs) (v : Visible) (u : Upcall) (up : os.boot ≡ Up) (fits : F
   }
 
   abbrev written_from : Description → Served
-  written_from d = write_from m who (stream_of_kind d.kind) (register u.context 11) (moved (register u.context 12))
+  written_from d = write_from m who (description_seen v.objects.live d) (register u.context 11) (moved (register u.context 12))
 
   -- of some bytes or of none
   some_stand : (d : Description) → IsWrite → description_behind os u.process fd ≡ Some d → (bit_and d.access 2 == 2) ≡ true → (none : Bool) → (register u.context 12 == 0) ≡ none →
       Stands (cond none (result_of os u 0) (goes_on os reading)) v (leads_to (cond none (silently (finished m who 0)) (written_from d)))
   some_stand d is behind allowed true none = result_stands 0 (write_returns is)
   some_stand d is behind allowed false some =
-      let there : description_of m who.process fd ≡ Some (description_seen d) = described ∙ ap (option_map description_seen) behind in
+      let there : description_of m who.process fd ≡ Some (description_seen v.objects.live d) = described ∙ ap (option_map (description_seen v.objects.live)) behind in
       record {
         fits = write_fits d is behind allowed some;
-        means = ap leads_to (served_write m who (u.cause, u.value) (description_seen d) is.call is.number there allowed some);
+        means = ap leads_to (served_write m who (u.cause, u.value) (description_seen v.objects.live d) is.call is.number there allowed some);
       }
 
   -- to a descriptor that is open for writing, or not
   open_stands : (d : Description) → IsWrite → description_behind os u.process fd ≡ Some d → (allowed : Bool) → (bit_and d.access 2 == 2) ≡ allowed →
       Stands (cond allowed (cond (register u.context 12 == 0) (result_of os u 0) (goes_on os reading)) (result_of os u (error EBADF))) v
-      (leads_to (write_to m who (cond allowed (Some (stream_of_kind d.kind)) None)))
+      (leads_to (write_to m who (cond allowed (Some (description_seen v.objects.live d)) None)))
   open_stands d is behind true allowed = some_stand d is behind allowed (register u.context 12 == 0) refl
   open_stands d is behind false refused = result_stands (error EBADF) (write_returns is)
 
-  behind_stands : (x : Option Description) → IsWrite → description_behind os u.process fd ≡ x → Stands (write_entered os u x) v (leads_to (write_to m who (writable (option_map description_seen x))))
+  behind_stands : (x : Option Description) → IsWrite → description_behind os u.process fd ≡ x → Stands (write_entered os u x) v (leads_to (write_to m who (writable (option_map (description_seen v.objects.live) x))))
   behind_stands None is behind = result_stands (error EBADF) (write_returns is)
   behind_stands (Some d) is behind = open_stands d is behind (bit_and d.access 2 == 2) refl
 
@@ -349,6 +348,16 @@ module _ (os : LibOs) (v : Visible) (u : Upcall) (up : os.boot ≡ Up) (fits : F
       dup3_stands os v u up fits (and_from _ _ (or_right (is_call u CLOSE) (is_call u DUP3) it) fits.recorded) it
   descriptor_stands call other false false false c d r = pages_stands call other (number == BRK) refl
 
+  -- a call on an open file or the console
+  file_stands : (u.cause == 8) ≡ true → is_exit number ≡ false → (reads seeks stats cuts : Bool) → (number == READ) ≡ reads → (number == LSEEK) ≡ seeks → (number == FSTAT) ≡ stats → (number == FTRUNCATE) ≡ cuts →
+      Stands (cond reads (read_entered os u opened) (cond seeks (lseek_entered os u opened) (cond stats (fstat_entered os u opened) (cond cuts (ftruncate_entered os u opened) (descriptor_entered os u number))))) v
+      (leads_to (silently (cond reads (read m who) (cond seeks (lseek m who) (cond stats (fstat m who) (cond cuts (ftruncate m who) (descriptor_call m who number)))))))
+  file_stands call other true seeks stats cuts is l s t = read_stands os v u up fits call is
+  file_stands call other false true stats cuts r is s t = lseek_stands os v u up fits call is
+  file_stands call other false false true cuts r l is t = fstat_stands os v u up fits call is
+  file_stands call other false false false true r l s is = ftruncate_stands os v u up fits call is
+  file_stands call other false false false false r l s t = descriptor_stands call other (number == CLOSE) (number == DUP) (number == DUP3) refl refl refl
+
   -- an exit of one of several threads ends the thread, and any other the process
   exit_by : (u.cause == 8) ≡ true → is_exit number ≡ true → (alone : Bool) → (number == EXIT && has_other_thread os u) ≡ alone →
       Stands (cond alone (ends_thread os u) (ends_process os u (register u.context 10 % 256))) v
@@ -365,16 +374,16 @@ module _ (os : LibOs) (v : Visible) (u : Upcall) (up : os.boot ≡ Up) (fits : F
       (sym (has_other_thread-base os v u fits.records)) (exit_by call is (number == EXIT && has_other_thread os u) refl)
 
   other_stands : (u.cause == 8) ≡ true → (exits : Bool) → is_exit number ≡ exits →
-      Stands (cond exits (exit_entered os u number) (descriptor_entered os u number)) v
-      (leads_to (cond exits (silently (exit m who number)) (silently (descriptor_call m who number))))
+      Stands (cond exits (exit_entered os u number) (file_entered os u number)) v
+      (leads_to (cond exits (silently (exit m who number)) (silently (file_call m who number))))
   other_stands call true is = exit_stands call is
-  other_stands call false other = descriptor_stands call other (number == CLOSE) (number == DUP) (number == DUP3) refl refl refl
+  other_stands call false other = file_stands call other (number == READ) (number == LSEEK) (number == FSTAT) (number == FTRUNCATE) refl refl refl refl
 
   abbrev other_entered : LibOs
-  other_entered = if is_exit number then exit_entered os u number else descriptor_entered os u number
+  other_entered = if is_exit number then exit_entered os u number else file_entered os u number
 
   abbrev other_call : Served
-  other_call = if is_exit number then silently (exit m who number) else silently (descriptor_call m who number)
+  other_call = if is_exit number then silently (exit m who number) else silently (file_call m who number)
 
   call_stands : (u.cause == 8) ≡ true → (writes : Bool) → (number == WRITE) ≡ writes →
       Stands (cond writes (write_entered os u (description_behind os u.process fd)) other_entered) v (leads_to (cond writes (write m who) other_call))

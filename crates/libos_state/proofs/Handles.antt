@@ -14,11 +14,11 @@ use Rattle.abi_calls.proofs.Counts.{count_none}
 use Rattle.libos_state.specs.declared.cont.Stage.{Stage}
 use Rattle.libos_state.specs.declared.notes.Description.{Description}
 use Rattle.libos_state.specs.declared.notes.Kind.{Kind}
-use Rattle.libos_state.specs.declared.notes.Kind.TheVariants.{ConIn, ConOut, ConErr}
+use Rattle.libos_state.specs.declared.notes.Kind.TheVariants.{ConIn, ConOut, ConErr, File}
 use Rattle.libos_state.specs.declared.notes.ProcessNote.{ProcessNote}
 use Rattle.libos_state.specs.declared.notes.ThreadNote.{ThreadNote}
 use Rattle.libos_state.specs.declared.state.LibOs.{LibOs}
-use Rattle.libos_state.specs.Named.{Named, ObjectKind, AProcess, AThread, AnEvent, AConsole, AFile, AStream, ToClose, is_of, recorded, named_as, consoles, times_named}
+use Rattle.libos_state.specs.Named.{Named, ObjectKind, AProcess, AThread, AnEvent, AStreamOf, AStream, ToClose, is_of, recorded, named_as, consoles, times_named}
 use Rattle.libos_state.specs.Fits.{FitsObjects, FitsStart, is_to_name}
 use Rattle.libos_state.proofs.Naming.{times_named-cons, kinds-kept}
 
@@ -30,7 +30,7 @@ console_kind opened = if opened == 0 then ConIn else (if opened == 1 then ConOut
 
 pub named_as-console : (hs : List ℕ) (h : ℕ) → length hs < 3
     → named_as (hs ++ h ∷ []) consoles
-    ≡ named_as hs consoles ++ (h, AConsole (console_kind (length hs))) ∷ []
+    ≡ named_as hs consoles ++ (h, AStreamOf (console_kind (length hs))) ∷ []
 named_as-console [] h few = refl
 named_as-console (a ∷ []) h few = refl
 named_as-console (a ∷ b ∷ []) h few = refl
@@ -63,7 +63,7 @@ recorded-start os o stage start = λ i.
     map (λ (n : ProcessNote). (n.handle, AProcess)) (start.processes i) ++
     (map (λ (n : ThreadNote). (n.handle, AThread)) (start.threads i) ++
     (map (λ (n : ThreadNote). (n.event, AnEvent)) (start.threads i) ++
-    map (λ (d : Description). (d.handle, AConsole d.kind)) (start.descriptions i)))
+    map (λ (d : Description). (d.handle, AStreamOf d.kind)) (start.descriptions i)))
 
 -- ---- objects of other kinds than those that are kept
 
@@ -109,8 +109,7 @@ fails_process : (k : ObjectKind) (x : Object) → is_no_process k ≡ true → i
 fails_process AProcess x other is = absurd (cc)
 fails_process AThread (Process s code) other is = absurd (cc)
 fails_process AnEvent (Process s code) other is = absurd (cc)
-fails_process (AConsole kind) (Process s code) other is = absurd (cc)
-fails_process AFile (Process s code) other is = absurd (cc)
+fails_process (AStreamOf kind) (Process s code) other is = absurd (cc)
 fails_process AStream (Process s code) other is = absurd (cc)
 fails_process ToClose (Process s code) other is = absurd (cc)
 fails_process k (Thread p context) other is = refl
@@ -123,8 +122,7 @@ fails_thread : (k : ObjectKind) (x : Object) → is_no_thread k ≡ true → is_
 fails_thread AThread x other is = absurd (cc)
 fails_thread AProcess (Thread p context) other is = absurd (cc)
 fails_thread AnEvent (Thread p context) other is = absurd (cc)
-fails_thread (AConsole kind) (Thread p context) other is = absurd (cc)
-fails_thread AFile (Thread p context) other is = absurd (cc)
+fails_thread (AStreamOf kind) (Thread p context) other is = absurd (cc)
 fails_thread AStream (Thread p context) other is = absurd (cc)
 fails_thread ToClose (Thread p context) other is = absurd (cc)
 fails_thread k (Process s code) other is = refl
@@ -153,7 +151,7 @@ pub record IsFile (x : Option Object) : Type 0 where
   pub name : List ℕ
   pub is : x ≡ Some (Stream (stream.File name))
 
-file_of_kind : (x : Option Object) → is_of AFile x ≡ true → IsFile x
+file_of_kind : (x : Option Object) → is_of (AStreamOf File) x ≡ true → IsFile x
 file_of_kind (Some (Stream (stream.File name))) is = record { name = name; is = refl }
 file_of_kind _ is = absurd (cc)
 
@@ -162,10 +160,10 @@ last_of : (test : Named → Bool) (names : List Named) (n : Named) → list_all 
 last_of test [] n all = (and_parts (test n) true all).0
 last_of test (m ∷ names) n all = last_of test names n (and_parts (test m) (list_all test (names ++ n ∷ [])) all).1
 
-pub file_there : (os : LibOs) (o : Objects) (hs : List ℕ) → length hs ≡ 4 → FitsObjects os o (named_as hs (consoles ++ AFile ∷ [])) None
+pub file_there : (os : LibOs) (o : Objects) (hs : List ℕ) → length hs ≡ 4 → FitsObjects os o (named_as hs (consoles ++ AStreamOf File ∷ [])) None
     → IsFile (object_at o (slice_index hs 3))
 file_there os o hs long fits =
-    let are = kinds-kept os o (named_as hs (consoles ++ AFile ∷ [])) None fits in
+    let are = kinds-kept os o (named_as hs (consoles ++ AStreamOf File ∷ [])) None fits in
     let test : Named → Bool = λ n. is_of n.1 (object_at o n.0) in
-    file_of_kind (object_at o (slice_index hs 3)) (last_of test (named_as (take 3 hs) consoles) (slice_index hs 3, AFile)
-    (ap (list_all test) (sym (named_as-fourth hs AFile long)) ∙ are))
+    file_of_kind (object_at o (slice_index hs 3)) (last_of test (named_as (take 3 hs) consoles) (slice_index hs 3, AStreamOf File)
+    (ap (list_all test) (sym (named_as-fourth hs (AStreamOf File) long)) ∙ are))

@@ -155,21 +155,21 @@ module _ (os : LibOs) (v : Visible) (records : FitsRecords os) (p : ℕ) where
   none_either false = refl
 
   description_kept : (q : ℕ) (x : Option Description) → description_named q os.descriptions ≡ x
-      → option_map description_seen (kept_if (λ d. is_open_without os p d.id) x) ≡ cond (calls.is_open_without m p q) (option_map description_seen x) None
+      → option_map (description_seen v.objects.live) (kept_if (λ d. is_open_without os p d.id) x) ≡ cond (calls.is_open_without m p q) (option_map (description_seen v.objects.live) x) None
   description_kept q None is = none_either (calls.is_open_without m p q)
   description_kept q (Some d) is =
       let id : d.id ≡ q = eqb-true d.id q (find-passes (λ j. j.id == q) os.descriptions d is) in
-      ap (λ k. option_map description_seen (cond (is_open_without os p k) (Some d) None)) id
-      ∙ ap (λ b. option_map description_seen (cond b (Some d) None)) (sym (is_open_without-base q))
-      ∙ elim (calls.is_open_without m p q) as (λ b. option_map description_seen (cond b (Some d) None) ≡ cond b (Some (description_seen d)) None) [ true ↦ refl | false ↦ refl ]
+      ap (λ k. option_map (description_seen v.objects.live) (cond (is_open_without os p k) (Some d) None)) id
+      ∙ ap (λ b. option_map (description_seen v.objects.live) (cond b (Some d) None)) (sym (is_open_without-base q))
+      ∙ elim (calls.is_open_without m p q) as (λ b. option_map (description_seen v.objects.live) (cond b (Some d) None) ≡ cond b (Some (description_seen v.objects.live d)) None) [ true ↦ refl | false ↦ refl ]
 
-  descriptions-ended : descriptions_of (filter (λ d. is_open_without os p d.id) os.descriptions) ≡ retain_keys (descriptions_of os.descriptions) (calls.is_open_without m p)
+  descriptions-ended : descriptions_of (filter (λ d. is_open_without os p d.id) os.descriptions) v.objects.live ≡ retain_keys (descriptions_of os.descriptions v.objects.live) (calls.is_open_without m p)
   descriptions-ended =
-      let before = descriptions_of os.descriptions in
-      same_numbers _ _ (λ q. get-mapped (λ d. d.id) description_seen (filter (λ d. is_open_without os p d.id) os.descriptions) q
-      ∙ ap (option_map description_seen) (find-filter (λ d. is_open_without os p d.id) (λ d. d.id == q) os.descriptions (count_by-distinct (λ (d : Description). d.id) os.descriptions q records.ids))
+      let before = descriptions_of os.descriptions v.objects.live in
+      same_numbers _ _ (λ q. get-mapped (λ d. d.id) (description_seen v.objects.live) (filter (λ d. is_open_without os p d.id) os.descriptions) q
+      ∙ ap (option_map (description_seen v.objects.live)) (find-filter (λ d. is_open_without os p d.id) (λ d. d.id == q) os.descriptions (count_by-distinct (λ (d : Description). d.id) os.descriptions q records.ids))
       ∙ description_kept q (description_named q os.descriptions) refl
-      ∙ ap (λ x. cond (calls.is_open_without m p q) x None) (sym (get-mapped (λ d. d.id) description_seen os.descriptions q))
+      ∙ ap (λ x. cond (calls.is_open_without m p q) x None) (sym (get-mapped (λ d. d.id) (description_seen v.objects.live) os.descriptions q))
       ∙ sym (get-retain_keys before (calls.is_open_without m p) q))
 
   -- ---- where threads stand

@@ -6,7 +6,9 @@ pub mod Booting
 pub mod Breaking
 pub mod Breaks
 pub mod Callers
+pub mod ChangedMemory
 pub mod Closing
+pub mod Cutting
 pub mod Deciding
 pub mod DescriptorBases
 pub mod DescriptorCalls
@@ -14,8 +16,11 @@ pub mod Descriptors
 pub mod Distinct
 pub mod Ending
 pub mod EndingThread
+pub mod EnteredTraps
 pub mod Entering
 mod Examples
+pub mod FileCalls
+pub mod FileEntering
 pub mod Filtered
 pub mod Going
 pub mod Handles
@@ -26,14 +31,20 @@ pub mod LeftRecords
 pub mod Loading
 pub mod Making
 pub mod Mapping
+pub mod Measuring
 pub mod Naming
 pub mod Numbers
 pub mod Once
+pub mod OpenStreams
 pub mod OpenedAlone
 pub mod Opening
 pub mod Pages
 pub mod Pieces
+pub mod Placing
+pub mod Positions
 pub mod Programs
+pub mod ReadCalls
+pub mod ReadEntering
 pub mod Reading
 pub mod Resuming
 pub mod Rows
@@ -42,7 +53,9 @@ pub mod Serving
 pub mod Stacking
 pub mod Stages
 pub mod Starts
+pub mod Storing
 pub mod StreamClosing
+pub mod StreamReading
 pub mod Turning
 pub mod Views
 pub mod Waking

@@ -1,22 +1,21 @@
 -- The stages on a process's pages: they are made, go, or get other rights.
-use Rattle.std.specs.Prelude.{◌≡◌, ◌≢◌, ℕ, ◌+◌, ◌*◌, ◌≤◌, ◌==◌, Bool, true, false, cond, not, ◌&&◌, ◌||◌, if◌then◌else◌, nat_lt, nat_le, [], ◌∷◌, is_some}
+use Rattle.std.specs.Prelude.{◌≡◌, ℕ, ◌+◌, ◌*◌, ◌≤◌, ◌==◌, Bool, true, false, cond, not, ◌&&◌, ◌||◌, if◌then◌else◌, nat_lt, nat_le, [], ◌∷◌, is_some}
 use Rattle.std.specs.FinMap.{len}
 use Rattle.std.specs.declared.option.Option.{Option}
 use Rattle.std.specs.declared.option.Option.TheVariants.{None, Some}
 use Rattle.std.proofs.Common.{refl, sym, ap, subst, ◌∙◌, arith, eqb-true, ltb-false, leb-true, leb-false, le-leb, le-ltb, ne_eqb}
 use Rattle.std.proofs.Math.Bool.{or-false}
-use Rattle.std.proofs.lemmas.Bool.{and_parts, and_from, both_ways, eqb-false}
+use Rattle.std.proofs.lemmas.Bool.{and_parts, both_ways, eqb-false}
 use Rattle.rv_core.specs.declared.context.Context.{Context}
 use Rattle.guest_space.specs.Space.{Space, with_run, without_run, protected}
 use Rattle.guest_space.specs.Run.{first_held, first_missing}
-use Rattle.abi_calls.specs.declared.object.Object.TheVariants.{Process, Thread}
+use Rattle.abi_calls.specs.declared.object.Object.TheVariants.{Process}
 use Rattle.abi_calls.specs.declared.reply.Reply.{Reply}
 use Rattle.abi_calls.specs.declared.reply.Reply.TheVariants.{Done, Exists, BadAddress, NoRoom}
 use Rattle.abi_calls.specs.declared.threads.Upcall.{Upcall}
-use Rattle.abi_calls.specs.Objects.{Objects, object_at, running, is_thread_of}
+use Rattle.abi_calls.specs.Objects.{Objects, object_at, running}
 use Rattle.abi_calls.specs.Memory.{with_pages, memory_allocate_row, memory_free_row, memory_protect_row}
 use Rattle.abi_calls.specs.Sound.{IsSound}
-use Rattle.bas_items.proofs.NumberMaps.{get-insert-other}
 use Rattle.mono_model.specs.Machine.{Mono, register, process_at, with_memory_in}
 use Rattle.mono_model.specs.declared.breaks.BreakMove.{BreakMove}
 use Rattle.mono_model.specs.Calls.{Caller, is_exit, BRK, MUNMAP, MMAP, MPROTECT, ENOMEM, EINVAL, error, silently, finished, finished_with, memory_at, munmap_known, mmap_known, mprotect_known, grow_break, shrink_break, map_from, map_pages, free_pages}
@@ -34,15 +33,14 @@ use Rattle.libos_state.specs.Breaks.{break_goes}
 use Rattle.libos_state.specs.Pending.{asked, upcall_in, argument, number, is_brk}
 use Rattle.libos_state.specs.Answered.{bare, goes_on, with_step, with_change, service_with_result, service_mapping, mapping_step, changed_step, answered_at}
 use Rattle.libos_state.specs.Meaning.{Meaning, caller_in, leads_to, meant_at}
-use Rattle.libos_state.specs.Named.{named_as, recorded, times_named}
-use Rattle.libos_state.specs.Fits.{FitsRecords, FitsObjects, FitsStage, FitsEvent, FitsTrap, KeepsPages, KeepsMade, comes_to, is_call, is_exit_call, is_of_start, is_recorded, is_undecided, is_growth, is_shrinking, moves_break, returns}
+use Rattle.libos_state.specs.Named.{named_as}
+use Rattle.libos_state.specs.Fits.{FitsRecords, FitsObjects, FitsStage, FitsEvent, FitsTrap, KeepsPages, KeepsMade, comes_to, is_call, is_of_start, is_recorded, is_undecided, is_growth, is_shrinking, moves_break, returns}
 use Rattle.libos_state.proofs.Holds.{Holds}
 use Rattle.libos_state.proofs.Rows.{Stands, by_row}
-use Rattle.libos_state.proofs.Naming.{Trapped, trapped, thread_of, times_named-most}
-use Rattle.libos_state.proofs.Bases.{base-with_memory}
-use Rattle.libos_state.proofs.Callers.{behind_process, caller_pid, memory-caller}
-use Rattle.libos_state.proofs.Pages.{FitsObjects-pages, is_run-below_stack}
-use Rattle.libos_state.proofs.Serving.{trap_of, on_trap, named_as-no_kinds, numbers_fit, result_fits, FitsTrap-with_service}
+use Rattle.libos_state.proofs.Naming.{Trapped}
+use Rattle.libos_state.proofs.ChangedMemory as changed
+use Rattle.libos_state.proofs.Pages.{is_run-below_stack}
+use Rattle.libos_state.proofs.Serving.{returns-call, trap_of, on_trap, named_as-no_kinds, numbers_fit, result_fits, FitsTrap-with_service}
 use Rattle.libos_state.proofs.Views.{AnswersAs, answer, on_objects}
 
 -- ---- a call on pages, by its trap
@@ -68,9 +66,7 @@ undecided os u number known is =
 -- It goes on behind itself, if it isn't an exit.
 pub returns-undecided : (os : LibOs) (u : Upcall) (number : ℕ) (known : Option ℕ) → is_exit number ≡ false → Undecided os u number known → returns os u ≡ true
 returns-undecided os u number known other is =
-    let stays : is_exit (register u.context 17) ≡ false = ap is_exit (eqb-true (register u.context 17) number is.number_is) ∙ other in
-    and_from (u.cause == 8) (not (is_exit_call u) && is_recorded os u) is.call
-    (and_from (not (is_exit_call u)) (is_recorded os u) (λ i. not (is.call i && stays i)) is.recorded)
+    returns-call os u is.call (ap is_exit (eqb-true (register u.context 17) number is.number_is) ∙ other) is.recorded
 
 pages_some : (bytes : ℕ) → (bytes == 0) ≡ false → 1 ≤ pages_for bytes
 pages_some bytes some = let more = eqb-false bytes 0 some in omega arith
@@ -148,26 +144,23 @@ module _ (os : LibOs) (c : Cont) (w : View) (stage : Stage) (number : ℕ) (know
   abbrev gives : ℕ → Cont
   gives result = service_with_result c result
 
-  trap : FitsTrap os w.objects u stage
+  pub trap : FitsTrap os w.objects u stage
   trap = trap_of os w.objects c.event stage at.serves at.event
 
-  pub home : Trapped os w.objects u
-  home = trapped os w.objects u [] None at.records at.objects trap.home at.call.recorded
+  abbrev trap_behind : FitsTrap os w.objects u SetContext
+  trap_behind = record { up = trap.up; first = trap.first; current = trap.current; home = trap.home; comes = at.goes }
+
+  abbrev pub home : Trapped os w.objects u
+  home = changed.home os c w at.records at.objects trap_behind
 
   abbrev s : Space
   s = home.links.memory
 
   pub memory_is : memory_at m who.process ≡ s
-  memory_is = memory-caller os c v at.records home
+  memory_is = changed.memory_is os c w at.records at.objects trap_behind
 
   pub there : object_at w.objects u.process ≡ Some (Process s None)
-  there = ap (object_at w.objects) home.process ∙ home.links.runs
-
-  -- the thread's object isn't the process's
-  apart : u.thread ≢ u.process
-  apart same =
-      let thread = thread_of u.process (object_at w.objects u.thread) trap.home in
-      let e : Some (Thread u.process thread.context) ≡ Some (Process s None) = sym thread.is ∙ ap (object_at w.objects) same ∙ there in cc
+  there = changed.there os c w at.records at.objects trap_behind
 
   -- the process has other pages, and the call gives a result
   module _ (new : Space) where
@@ -175,26 +168,14 @@ module _ (os : LibOs) (c : Cont) (w : View) (stage : Stage) (number : ℕ) (know
     after = with_pages w.objects u.process new
 
     pub base_after : base os (with_visible v after) ≡ with_memory_in m who.process new (process_at m who.process)
-    base_after =
-        let once : times_named u.process (recorded os) ≤ 1 = omega (arith, times_named-most os w.objects [] None at.objects u.process) in
-        base-with_memory os v u.process home.links.process new at.records once (behind_process os c v at.records home) home.links.code
-        ∙ sym (ap (λ p. with_memory_in m p new (process_at m p)) (caller_pid os c v at.records home))
+    base_after = changed.base_after os c w at.records at.objects trap_behind new
 
     pub after_trap : (cont : Option Cont) → FitsTrap (record os { cont = cont }) after u SetContext
-    after_trap cont = record {
-      up = trap.up;
-      first = trap.first;
-      current = trap.current;
-      home = ap (is_thread_of u.process) (get-insert-other w.objects.live u.process (Process new None) u.thread apart) ∙ trap.home;
-      comes = at.goes;
-    }
+    after_trap cont = changed.after_trap os c w at.records at.objects trap_behind new cont
 
     pub changed_stands : (result : ℕ) → Stands (goes_on os (gives result)) (with_visible v after) (leads_to (silently (finished_with m who new result)))
-    changed_stands result = record {
-      fits = result_fits os after c result at.records (FitsObjects-pages os w.objects u.process s new [] there at.objects)
-          (on_trap os (goes_on os (gives result)) w.objects after c.event stage SetContext at.serves at.event (after_trap (Some (gives result))));
-      means = ap (λ (n : Mono). leads_to (silently (finished n who result))) base_after;
-    }
+    changed_stands result = changed.changed_stands os c w at.records at.objects trap_behind new
+        (λ os' o behind. on_trap os os' w.objects o c.event stage SetContext at.serves at.event behind) result
 
   -- the event at a further stage of the call
   pub event_at : (next : Cont) (stage' : Stage) → comes_to os u stage' ≡ true → FitsEvent (goes_on os next) w.objects c.event stage'

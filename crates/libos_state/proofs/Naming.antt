@@ -25,7 +25,7 @@ use Rattle.libos_state.specs.declared.state.LibOs.{LibOs}
 use Rattle.libos_state.specs.Records.{process_named, process_with, thread_with, thread_woken_by, description_with, tid_of, pid_of, pid_with}
 use Rattle.libos_state.specs.Meaning.{caller_of}
 use Rattle.libos_state.proofs.Distinct.{some_of}
-use Rattle.libos_state.specs.Named.{Named, ObjectKind, AProcess, AThread, AnEvent, AConsole, AFile, AStream, ToClose, is_console, is_of, recorded, named_as, times_named}
+use Rattle.libos_state.specs.Named.{Named, ObjectKind, AProcess, AThread, AnEvent, AStreamOf, AStream, ToClose, is_stream_of, is_of, recorded, named_as, times_named}
 use Rattle.libos_state.specs.Fits.{FitsRecords, FitsObjects, is_alive, is_to_name, is_code, has_code, handle_in, is_home}
 
 -- ---- lists: what is found, and how often a test is passed
@@ -137,7 +137,7 @@ times_named-recorded q os =
     let processes : List Named = map (λ n. (n.handle, AProcess)) os.processes in
     let threads : List Named = map (λ n. (n.handle, AThread)) os.threads in
     let events : List Named = map (λ n. (n.event, AnEvent)) os.threads in
-    let descriptions : List Named = map (λ d. (d.handle, AConsole d.kind)) os.descriptions in
+    let descriptions : List Named = map (λ d. (d.handle, AStreamOf d.kind)) os.descriptions in
     omega (
       arith,
       times_named-append q processes (threads ++ (events ++ descriptions)),
@@ -146,7 +146,7 @@ times_named-recorded q os =
       times_named-map q (λ (n : ProcessNote). n.handle) (λ n. AProcess) os.processes,
       times_named-map q (λ (n : ThreadNote). n.handle) (λ n. AThread) os.threads,
       times_named-map q (λ (n : ThreadNote). n.event) (λ n. AnEvent) os.threads,
-      times_named-map q (λ (d : Description). d.handle) (λ d. AConsole d.kind) os.descriptions,
+      times_named-map q (λ (d : Description). d.handle) (λ d. AStreamOf d.kind) os.descriptions,
     )
 
 -- one more handle of a kind
@@ -212,8 +212,7 @@ none_of : (kind : ObjectKind) → is_of kind None ≡ true → ⊥
 none_of AProcess is = cc
 none_of AThread is = cc
 none_of AnEvent is = cc
-none_of (AConsole kind) is = cc
-none_of AFile is = cc
+none_of (AStreamOf kind) is = cc
 none_of AStream is = cc
 none_of ToClose is = cc
 
@@ -395,8 +394,7 @@ Alike-thread_kind : (kind : ObjectKind) (p : ℕ) (old new : Context) → is_of 
 Alike-thread_kind AProcess p old new is = is
 Alike-thread_kind AThread p old new is = is
 Alike-thread_kind AnEvent p old new is = is
-Alike-thread_kind (AConsole kind) p old new is = absurd (cc)
-Alike-thread_kind AFile p old new is = is
+Alike-thread_kind (AStreamOf kind) p old new is = absurd (cc)
 Alike-thread_kind AStream p old new is = is
 Alike-thread_kind ToClose p old new is = is
 
@@ -415,8 +413,7 @@ Alike-process_kind : (kind : ObjectKind) (old new : Space) → is_of kind (Some 
 Alike-process_kind AProcess old new is = is
 Alike-process_kind AThread old new is = is
 Alike-process_kind AnEvent old new is = is
-Alike-process_kind (AConsole kind) old new is = absurd (cc)
-Alike-process_kind AFile old new is = is
+Alike-process_kind (AStreamOf kind) old new is = absurd (cc)
 Alike-process_kind AStream old new is = is
 Alike-process_kind ToClose old new is = is
 
@@ -474,10 +471,10 @@ event_of (Some (WriteEnd pipe)) is = absurd (cc)
 
 pub record ConsoleOf (x : Option Object) (kind : Kind) : Type 0 where
   pub name : StreamName
-  pub console : is_console kind name ≡ true
+  pub console : is_stream_of kind name ≡ true
   pub is : x ≡ Some (Stream name)
 
-pub console_of : (kind : Kind) (x : Option Object) → is_of (AConsole kind) x ≡ true → ConsoleOf x kind
+pub console_of : (kind : Kind) (x : Option Object) → is_of (AStreamOf kind) x ≡ true → ConsoleOf x kind
 console_of kind None is = absurd (cc)
 console_of kind (Some (Stream name)) is = record { name = name; console = is; is = refl }
 console_of kind (Some (Process memory code)) is = absurd (cc)
@@ -505,7 +502,7 @@ pub record KindsRecorded (os : LibOs) (o : Objects) : Type 0 where
   pub processes : list_all (λ (n : ProcessNote). is_of AProcess (object_at o n.handle)) os.processes ≡ true
   pub threads : list_all (λ (n : ThreadNote). is_of AThread (object_at o n.handle)) os.threads ≡ true
   pub events : list_all (λ (n : ThreadNote). is_of AnEvent (object_at o n.event)) os.threads ≡ true
-  pub descriptions : list_all (λ (d : Description). is_of (AConsole d.kind) (object_at o d.handle)) os.descriptions ≡ true
+  pub descriptions : list_all (λ (d : Description). is_of (AStreamOf d.kind) (object_at o d.handle)) os.descriptions ≡ true
 
 pub kinds_recorded : (os : LibOs) (o : Objects) → list_all (is_named o) (recorded os) ≡ true → KindsRecorded os o
 kinds_recorded os o kinds =
@@ -513,7 +510,7 @@ kinds_recorded os o kinds =
     let processes : List Named = map (λ n. (n.handle, AProcess)) os.processes in
     let threads : List Named = map (λ n. (n.handle, AThread)) os.threads in
     let events : List Named = map (λ n. (n.event, AnEvent)) os.threads in
-    let descriptions : List Named = map (λ d. (d.handle, AConsole d.kind)) os.descriptions in
+    let descriptions : List Named = map (λ d. (d.handle, AStreamOf d.kind)) os.descriptions in
     let first = and_parts (list_all test processes) (list_all test (threads ++ (events ++ descriptions))) (sym (list_all-append test processes (threads ++ (events ++ descriptions))) ∙ kinds) in
     let second = and_parts (list_all test threads) (list_all test (events ++ descriptions)) (sym (list_all-append test threads (events ++ descriptions)) ∙ first.1) in
     let third = and_parts (list_all test events) (list_all test descriptions) (sym (list_all-append test events descriptions) ∙ second.1) in
@@ -521,7 +518,7 @@ kinds_recorded os o kinds =
       processes = sym (list_all-map test (λ (n : ProcessNote). (n.handle, AProcess)) os.processes) ∙ first.0;
       threads = sym (list_all-map test (λ (n : ThreadNote). (n.handle, AThread)) os.threads) ∙ second.0;
       events = sym (list_all-map test (λ (n : ThreadNote). (n.event, AnEvent)) os.threads) ∙ third.0;
-      descriptions = sym (list_all-map test (λ (d : Description). (d.handle, AConsole d.kind)) os.descriptions) ∙ third.1;
+      descriptions = sym (list_all-map test (λ (d : Description). (d.handle, AStreamOf d.kind)) os.descriptions) ∙ third.1;
     }
 
 -- What the record of a thread is linked with: its process, which runs, and the objects.

@@ -20,7 +20,7 @@ use Rattle.abi_calls.specs.declared.reply.Reply.TheVariants.{Done, Handle, NotFo
 use Rattle.turn_sched.specs.declared.settings.Positions.{Positions}
 use Rattle.turn_sched.specs.declared.settings.Settings.{Settings}
 use Rattle.abi_calls.specs.Objects.{Objects, object_at, number_of, with_object}
-use Rattle.abi_calls.specs.Streams.{stream_of, open_answer, named, open_found, stream_open_row}
+use Rattle.abi_calls.specs.Streams.{open_answer, named, open_found, stream_open_row}
 use Rattle.abi_calls.specs.Processes.{is_running, is_acceptable, configure_row}
 use Rattle.abi_calls.specs.Abi.{new_number}
 use Rattle.abi_calls.specs.declared.call.Call.{Call}
@@ -36,14 +36,15 @@ use Rattle.mono_model.specs.Starting.{started, started_if, started_with, file_be
 use Rattle.libos_state.specs.declared.cont.Cont.{Cont}
 use Rattle.libos_state.specs.declared.cont.Stage.TheVariants.{OpenConsole, OpenProgram, ProgramLength}
 use Rattle.libos_state.specs.declared.cont.Stage.TheVariants as stage
-use Rattle.libos_state.specs.declared.notes.Kind.TheVariants as kind
 use Rattle.libos_state.specs.declared.state.Boot.TheVariants.{NoProgram}
+use Rattle.libos_state.specs.declared.notes.Kind.TheVariants as kind
 use Rattle.libos_state.specs.declared.state.LibOs.{LibOs}
 use Rattle.libos_state.specs.Records.{View, Visible, visible, with_visible}
 use Rattle.libos_state.specs.Pending.{program_name, arguments, console_name, no_positions, asked}
 use Rattle.libos_state.specs.Answered.{goes_on, starting}
-use Rattle.libos_state.specs.Meaning.{meaning, meant_at, settles, unstarted, job_in, name_in, program_file}
-use Rattle.libos_state.specs.Named.{AConsole, AFile, is_of, named_as, consoles}
+use Rattle.libos_state.specs.Records.{file_seen}
+use Rattle.libos_state.specs.Meaning.{meaning, meant_at, settles, unstarted, job_in, program_file}
+use Rattle.libos_state.specs.Named.{AStreamOf, is_of, named_as, consoles}
 use Rattle.libos_state.specs.Fits.{Fits, FitsStage, FitsNone, FitsObjects}
 use Rattle.libos_state.proofs.Going.{with_service}
 use Rattle.libos_state.proofs.Holds.{HoldsQuietly, Keeps-silent}
@@ -97,11 +98,11 @@ console_opens w h true b = refl
 console_opens w h false true = refl
 console_opens w h false false = refl
 
-console_is : (n : ℕ) → is_of (AConsole (console_kind n)) (Some (Stream (console_name n))) ≡ true
-console_is n = elim (n == 0) as (λ a. is_of (AConsole (if a then kind.ConIn else (if n == 1 then kind.ConOut else kind.ConErr)))
+console_is : (n : ℕ) → is_of (AStreamOf (console_kind n)) (Some (Stream (console_name n))) ≡ true
+console_is n = elim (n == 0) as (λ a. is_of (AStreamOf (if a then kind.ConIn else (if n == 1 then kind.ConOut else kind.ConErr)))
     (Some (Stream (if a then ConIn else (if n == 1 then ConOut else ConErr)))) ≡ true) [
       | true ↦ refl
-      | false ↦ elim (n == 1) as (λ b. is_of (AConsole (if b then kind.ConOut else kind.ConErr)) (Some (Stream (if b then ConOut else ConErr))) ≡ true) [
+      | false ↦ elim (n == 1) as (λ b. is_of (AStreamOf (if b then kind.ConOut else kind.ConErr)) (Some (Stream (if b then ConOut else ConErr))) ≡ true) [
         | true ↦ refl
         | false ↦ refl
       ]
@@ -140,7 +141,7 @@ keeps_open_console os c w w' r fits sound abi =
     let fresh = fresh_handle w w' (asked os c OpenConsole) r h (with_objects w o) abi row in
     let few = fits.lists.handles in
     let objects = subst (λ names. FitsObjects os o names None) (sym (named_as-console c.handles h few))
-    (FitsObjects-new os w.objects h (Stream name) (AConsole (console_kind (length c.handles))) (named_as c.handles consoles) None
+    (FitsObjects-new os w.objects h (Stream name) (AStreamOf (console_kind (length c.handles))) (named_as c.handles consoles) None
     fresh.free refl (console_is (length c.handles)) fits.objects) in
     let current = (start_of os w.objects c OpenConsole refl fits).current in
     let short : length handles ≤ 3 = omega (arith, length_push c.handles h) in
@@ -267,14 +268,14 @@ opened_program os c w w' r name fits abi some short same (Some bytes) is =
     let fresh = fresh_handle w w' (opening name) r h (with_objects w o) abi row in
     let held : length c.handles ≡ 3 = fits.lists.handles in
     let objects = subst (λ kept. FitsObjects os o kept None)
-    (sym (named_as-push c.handles consoles h AFile held))
-    (FitsObjects-new os w.objects h (Stream (File name)) AFile (named_as c.handles consoles)
+    (sym (named_as-push c.handles consoles h (AStreamOf kind.File) held))
+    (FitsObjects-new os w.objects h (Stream (File name)) (AStreamOf kind.File) (named_as c.handles consoles)
     None fresh.free refl refl fits.objects) in
     let last : slice_index handles 3 ≡ h = get_or_push c.handles h 0 3 held in
     let file : object_at o (slice_index handles 3) ≡ Some (Stream (File name)) =
     ap (object_at o) last ∙ get-insert-same w.objects.live h (Stream (File name)) in
     let contents : program_file v (starting c ProgramLength [] handles []) ≡ bytes =
-    ap (λ x. file_bytes w.contents.files (name_in (stream_of x))) file
+    ap (λ x. file_bytes w.contents.files (file_seen x)) file
     ∙ ap (λ f. unwrap_or f []) is in
     quietly_by_row os c OpenProgram w w' r (Handle h) o abi row (record {
       fits = start_goes_on os w.objects c OpenProgram refl fits o ProgramLength [] handles [] refl

@@ -11,7 +11,7 @@ use Rattle.abi_calls.specs.declared.object.Object.TheVariants.{Stream}
 use Rattle.abi_calls.specs.declared.reply.Reply.{Reply}
 use Rattle.abi_calls.specs.declared.reply.Reply.TheVariants.{Done, Bytes, Length, TooBig}
 use Rattle.abi_calls.specs.Objects.{Object, Objects, object_at, without_handles}
-use Rattle.abi_calls.specs.Streams.{stream_of, stream_length_row, stream_read_row}
+use Rattle.abi_calls.specs.Streams.{stream_length_row, stream_read_row}
 use Rattle.abi_calls.specs.Processes.{close_row}
 use Rattle.abi_calls.specs.Sound.{IsSound}
 use Rattle.turn_sched.specs.Lists.{unless_ended}
@@ -22,12 +22,14 @@ use Rattle.mono_model.specs.Starting.{started_with, begun_from}
 use Rattle.libos_state.specs.declared.cont.Cont.{Cont}
 use Rattle.libos_state.specs.declared.cont.Stage.TheVariants.{ProgramLength, ReadProgram, CloseProgram, CreateProcess}
 use Rattle.libos_state.specs.declared.state.Boot.TheVariants.{BadProgram}
+use Rattle.libos_state.specs.declared.notes.Kind.TheVariants as kind
 use Rattle.libos_state.specs.declared.state.LibOs.{LibOs}
 use Rattle.libos_state.specs.Records.{View, visible, with_visible}
 use Rattle.libos_state.specs.Pending.{number, arguments, asked, file_or_child, PIECE}
 use Rattle.libos_state.specs.Answered.{goes_on, starting, with_step, load_step}
-use Rattle.libos_state.specs.Meaning.{settles, unstarted, name_in, program_file, meant_at}
-use Rattle.libos_state.specs.Named.{AFile, named_as, consoles}
+use Rattle.libos_state.specs.Records.{file_seen}
+use Rattle.libos_state.specs.Meaning.{settles, unstarted, program_file, meant_at}
+use Rattle.libos_state.specs.Named.{AStreamOf, named_as, consoles}
 use Rattle.libos_state.specs.Fits.{Fits, FitsStage, FitsObjects}
 use Rattle.libos_state.proofs.Holds.{HoldsQuietly}
 use Rattle.libos_state.proofs.Rows.{Stands, quietly_by_row}
@@ -77,7 +79,7 @@ keeps_program_length os c w w' r fits sound abi =
     let file = file_there os w.objects c.handles fits.lists.handles fits.objects in
     let row : answer w (asked os c ProgramLength) r ≡ (Length size, w) =
     ap (λ x. on_world w (stream_length_row (world w) x)) file.is
-    ∙ ap {B = Answer} (λ x. (Length (length (file_bytes w.contents.files (name_in (stream_of x)))), w))
+    ∙ ap {B = Answer} (λ x. (Length (length (file_bytes w.contents.files (file_seen x))), w))
     (sym file.is) in
     quietly_by_row os c ProgramLength w w' r (Length size) w.objects abi row
     (length_stands os c w size (size == 0) fits refl refl)
@@ -151,7 +153,7 @@ module _ (os : LibOs) (c : Cont) (w : View) (fits : FitsStage os w.objects c Rea
 row_read : (w : World) (offset count : ℕ) (r : Reply) (name : List ℕ) (x : Option Object)
     → count ≤ 65536 → x ≡ Some (Stream (File name))
     → stream_read_row w offset count r x
-    ≡ (Bytes (take count (drop offset (file_bytes w.contents.files (name_in (stream_of x))))), w)
+    ≡ (Bytes (take count (drop offset (file_bytes w.contents.files (file_seen x)))), w)
 row_read w offset count r name x small is =
     let few : nat_lt 65536 count ≡ false = le-ltb 65536 count small in
     ap (stream_read_row w offset count r) is
@@ -159,7 +161,7 @@ row_read w offset count r name x small is =
     else (Bytes (take count (drop offset (file_bytes w.contents.files name))), w)) few
     ∙ ap {B = worlds.Answer} (λ y. (
       Bytes (take count (drop offset
-          (file_bytes w.contents.files (name_in (stream_of y))))),
+          (file_bytes w.contents.files (file_seen y)))),
       w,
     )) (sym is)
 
@@ -193,9 +195,9 @@ module _ (os : LibOs) (c : Cont) (w : View) (fits : FitsStage os w.objects c Clo
   closed_objects =
       let ends = named_as (take 3 c.handles) consoles in
       subst (λ names. FitsObjects os closed names None) (append-nil ends)
-      (FitsObjects-closed os w.objects (file_or_child c) AFile ends [] None
+      (FitsObjects-closed os w.objects (file_or_child c) (AStreamOf kind.File) ends [] None
       (subst (λ names. FitsObjects os w.objects names None)
-      (named_as-fourth c.handles AFile fits.lists.handles) fits.objects))
+      (named_as-fourth c.handles (AStreamOf kind.File) fits.lists.handles) fits.objects))
 
   closed_stands : (refused : Option ElfError) → refusal c.bytes ≡ refused
       → Stands (with_step os (load_step c (unless_refused refused (program_of c.bytes))))

@@ -1,22 +1,24 @@
 -- The trap that a service serves.
-use Rattle.std.specs.Prelude.{◌≡◌, ℕ, ◌==◌, true, false, not, ◌&&◌, List, [], ◌∷◌, length}
+use Rattle.std.specs.Prelude.{◌≡◌, ℕ, ◌≤◌, ◌==◌, true, false, not, ◌&&◌, List, [], ◌∷◌, length}
 use Rattle.std.specs.declared.option.Option.{Option}
 use Rattle.std.specs.declared.option.Option.TheVariants.{None, Some}
 use Rattle.std.proofs.Common.{refl, sym, ap, subst, ◌∙◌, arith, eq-eqb}
-use Rattle.std.proofs.lemmas.Bool.{and_parts, or_right}
+use Rattle.std.proofs.lemmas.Bool.{and_parts, and_from, or_right}
 use Rattle.turn_sched.specs.Lists.{is_resting, is_at, contains}
 use Rattle.abi_calls.specs.declared.threads.Upcall.{Upcall}
 use Rattle.abi_calls.specs.Objects.{Objects}
+use Rattle.mono_model.specs.Machine.{register}
+use Rattle.mono_model.specs.Calls.{is_exit}
 use Rattle.libos_state.specs.declared.cont.Cont.{Cont}
 use Rattle.libos_state.specs.declared.cont.Event.{Event}
 use Rattle.libos_state.specs.declared.cont.Event.TheVariants as event
 use Rattle.libos_state.specs.declared.cont.Stage.{Stage}
-use Rattle.libos_state.specs.declared.cont.Stage.TheVariants.{SetContext, CloseStream}
+use Rattle.libos_state.specs.declared.cont.Stage.TheVariants.{SetContext, StoreBytes, CloseStream}
 use Rattle.libos_state.specs.declared.state.LibOs.{LibOs}
 use Rattle.libos_state.specs.Pending.{upcall_in}
 use Rattle.libos_state.specs.Named.{Named, named_as, kept_names}
-use Rattle.libos_state.specs.Answered.{bare, goes_on, service_with_result}
-use Rattle.libos_state.specs.Fits.{FitsRecords, FitsObjects, FitsStage, FitsEvent, FitsTrap, FitsKept, FitsMade, AreNames, HasHandles, ending_at, keeps_names, numbers_at, comes_to, is_of_start, is_recorded, returns, is_exit_call, counted}
+use Rattle.libos_state.specs.Answered.{bare, goes_on, service_with_result, service_storing}
+use Rattle.libos_state.specs.Fits.{most_stored, FitsRecords, FitsObjects, FitsStage, FitsEvent, FitsTrap, FitsKept, FitsMade, AreNames, HasHandles, ending_at, keeps_names, numbers_at, comes_to, is_of_start, is_recorded, returns, is_exit_call, counted}
 use Rattle.libos_state.proofs.Going.{with_service, FitsRecords-with_service, FitsObjects-with_service}
 
 -- The event of a stage that starts nothing is a trap.
@@ -41,6 +43,12 @@ current_rests o t is = or_right (contains o.lists.suspended t) (is_at t o.lists.
 -- A call that its thread goes on behind has a thread that is recorded.
 pub returns-recorded : (os : LibOs) (u : Upcall) → returns os u ≡ true → is_recorded os u ≡ true
 returns-recorded os u is = (and_parts (not (is_exit_call u)) (is_recorded os u) (and_parts (u.cause == 8) (not (is_exit_call u) && is_recorded os u) is).1).1
+
+-- A call that isn't an exit goes on behind itself.
+pub returns-call : (os : LibOs) (u : Upcall) → (u.cause == 8) ≡ true → is_exit (register u.context 17) ≡ false → is_recorded os u ≡ true → returns os u ≡ true
+returns-call os u call other recorded =
+    let stays : not (is_exit_call u) ≡ true = λ i. not (call i && other i) in
+    and_from (u.cause == 8) (not (is_exit_call u) && is_recorded os u) call (and_from (not (is_exit_call u)) (is_recorded os u) stays recorded)
 
 -- The trap doesn't hang on the service in progress.
 pub FitsTrap-with_service : (os : LibOs) (cont : Option Cont) (o : Objects) (u : Upcall) (stage stage' : Stage) → FitsTrap os o u stage → comes_to os u stage' ≡ true
@@ -105,3 +113,20 @@ result_fits os o c result records objects fits = record {
   kept = tt;
   made = tt;
 }
+
+-- Bytes that go to the caller's memory next.
+pub storing_fits : (os : LibOs) (o : Objects) (c : Cont) (address : ℕ) (bytes : List ℕ) (result : ℕ) →
+    let next = service_storing c address bytes result in
+    FitsRecords os → FitsObjects os o [] None → FitsEvent (goes_on os next) o c.event StoreBytes → length bytes ≤ most_stored (upcall_in c.event)
+    → FitsStage (goes_on os next) o next StoreBytes
+storing_fits os o c address bytes result records objects event few =
+    let next = service_storing c address bytes result in
+    record {
+      records = FitsRecords-with_service os os.boot (Some next) records;
+      objects = FitsObjects-with_service os os.boot (Some next) o [] None objects;
+      event = event;
+      lists = record { next = λ keeps. refl; names = λ keeps. refl; bytes = λ keeps. absurd (cc); handles = refl; later = refl; numbers = refl };
+      names = tt;
+      kept = few;
+      made = tt;
+    }

@@ -10,7 +10,7 @@ use Rattle.abi_calls.specs.declared.reply.Reply.{Reply}
 use Rattle.abi_calls.specs.Sound.{IsSound}
 use Rattle.libos_state.specs.declared.cont.Cont.{Cont}
 use Rattle.libos_state.specs.declared.cont.Stage.{Stage}
-use Rattle.libos_state.specs.declared.cont.Stage.TheVariants.{SetContext, Resume, CloseEvent, ExitThread, CloseHandles, ExitProcess, ReadBuffer, WriteStream, AllocatePages, FreePages, ProtectPages, Configure, OpenConsole, OpenProgram, ProgramLength, ReadProgram, CloseProgram, CreateProcess, AllocateRun, WriteRun, ProtectRun, AllocateStack, WriteBlock, CreateThread, CreateEvent, StartThread, CloseStream}
+use Rattle.libos_state.specs.declared.cont.Stage.TheVariants.{SetContext, Resume, CloseEvent, ExitThread, CloseHandles, ExitProcess, ReadStream, StoreBytes, ReadBuffer, AppendLength, WriteStream, FileLength, SetFileLength, AllocatePages, FreePages, ProtectPages, Configure, OpenConsole, OpenProgram, ProgramLength, ReadProgram, CloseProgram, CreateProcess, AllocateRun, WriteRun, ProtectRun, AllocateStack, WriteBlock, CreateThread, CreateEvent, StartThread, CloseStream}
 use Rattle.libos_state.specs.declared.state.LibOs.{LibOs}
 use Rattle.libos_state.specs.Records.{View}
 use Rattle.libos_state.specs.Pending.{asked}
@@ -23,7 +23,11 @@ use Rattle.libos_state.proofs.Resuming.{keeps_set_context, keeps_resume}
 use Rattle.libos_state.proofs.StreamClosing.{keeps_close_stream}
 use Rattle.libos_state.proofs.Ending.{keeps_close_handles, keeps_exit_process}
 use Rattle.libos_state.proofs.EndingThread.{keeps_close_event, keeps_exit_thread}
-use Rattle.libos_state.proofs.Writing.{keeps_read_buffer, keeps_write_stream}
+use Rattle.libos_state.proofs.Writing.{keeps_read_buffer, keeps_append_length, keeps_write_stream}
+use Rattle.libos_state.proofs.StreamReading.{keeps_read_stream}
+use Rattle.libos_state.proofs.Storing.{keeps_store_bytes}
+use Rattle.libos_state.proofs.Measuring.{keeps_file_length}
+use Rattle.libos_state.proofs.Cutting.{keeps_set_file_length}
 use Rattle.libos_state.proofs.Mapping.{keeps_protect_pages}
 use Rattle.libos_state.proofs.Breaking.{keeps_allocate_pages, keeps_free_pages}
 use Rattle.libos_state.proofs.Opening.{keeps_configure, keeps_open_console, keeps_open_program}
@@ -63,8 +67,13 @@ keeps_trap os c CloseEvent w w' r other = keeps_close_event os c w w' r
 keeps_trap os c ExitThread w w' r other = keeps_exit_thread os c w w' r
 keeps_trap os c CloseHandles w w' r other = keeps_close_handles os c w w' r
 keeps_trap os c ExitProcess w w' r other = keeps_exit_process os c w w' r
+keeps_trap os c ReadStream w w' r other = keeps_read_stream os c w w' r
+keeps_trap os c StoreBytes w w' r other = keeps_store_bytes os c w w' r
 keeps_trap os c ReadBuffer w w' r other = keeps_read_buffer os c w w' r
+keeps_trap os c AppendLength w w' r other = keeps_append_length os c w w' r
 keeps_trap os c WriteStream w w' r other = keeps_write_stream os c w w' r
+keeps_trap os c FileLength w w' r other = keeps_file_length os c w w' r
+keeps_trap os c SetFileLength w w' r other = keeps_set_file_length os c w w' r
 keeps_trap os c AllocatePages w w' r other = keeps_allocate_pages os c w w' r
 keeps_trap os c FreePages w w' r other = keeps_free_pages os c w w' r
 keeps_trap os c ProtectPages w w' r other = keeps_protect_pages os c w w' r

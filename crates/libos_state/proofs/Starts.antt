@@ -8,7 +8,7 @@ use Rattle.libos_state.specs.declared.cont.Cont.{Cont}
 use Rattle.libos_state.specs.declared.cont.Event.{Event}
 use Rattle.libos_state.specs.declared.cont.Event.TheVariants as event
 use Rattle.libos_state.specs.declared.cont.Stage.{Stage}
-use Rattle.libos_state.specs.declared.cont.Stage.TheVariants.{SetContext, Resume, CloseEvent, ExitThread, CloseHandles, ExitProcess, ReadBuffer, WriteStream, AllocatePages, FreePages, ProtectPages, CloseStream}
+use Rattle.libos_state.specs.declared.cont.Stage.TheVariants.{SetContext, Resume, CloseEvent, ExitThread, CloseHandles, ExitProcess, ReadBuffer, WriteStream, ReadStream, StoreBytes, AppendLength, FileLength, SetFileLength, AllocatePages, FreePages, ProtectPages, CloseStream}
 use Rattle.libos_state.specs.declared.state.Boot.{Boot}
 use Rattle.libos_state.specs.declared.state.LibOs.{LibOs}
 use Rattle.libos_state.specs.Answered.{goes_on, starting}
@@ -26,8 +26,13 @@ comes_to-start os u CloseEvent starts = absurd (cc)
 comes_to-start os u ExitThread starts = absurd (cc)
 comes_to-start os u CloseHandles starts = absurd (cc)
 comes_to-start os u ExitProcess starts = absurd (cc)
+comes_to-start os u ReadStream starts = absurd (cc)
+comes_to-start os u StoreBytes starts = absurd (cc)
 comes_to-start os u ReadBuffer starts = absurd (cc)
+comes_to-start os u AppendLength starts = absurd (cc)
 comes_to-start os u WriteStream starts = absurd (cc)
+comes_to-start os u FileLength starts = absurd (cc)
+comes_to-start os u SetFileLength starts = absurd (cc)
 comes_to-start os u AllocatePages starts = absurd (cc)
 comes_to-start os u FreePages starts = absurd (cc)
 comes_to-start os u ProtectPages starts = absurd (cc)

@@ -21,7 +21,8 @@ use Rattle.abi_calls.proofs.TurnFacts.{world_turn-runs, world_turn-cases, home_a
 use Rattle.abi_calls.proofs.Sounds.{IsSound-with_due_ready}
 use Rattle.bas_items.proofs.NumberMaps.{get-insert-same, get-insert-other}
 use Rattle.mono_model.specs.Machine.{Mono, process_at, with_memory_in, with_context, made_ready}
-use Rattle.mono_model.specs.Calls.{Trap, Served, silently, served, memory_at, memory_in}
+use Rattle.mono_model.specs.Calls.{Trap, Served, silently, memory_at, memory_in}
+use Rattle.mono_model.specs.SystemCalls.{served}
 use Rattle.mono_model.specs.Turns as machine
 use Rattle.mono_model.specs.Turns.{turn_of, turn_of_pick, awoken, is_stuck, is_nobody, waits_for_time, pick_word, after_run}
 use Rattle.libos_state.specs.declared.notes.ThreadNote.{ThreadNote}

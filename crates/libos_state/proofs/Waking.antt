@@ -28,7 +28,7 @@ use Rattle.libos_state.specs.declared.notes.ProcessNote.{ProcessNote}
 use Rattle.libos_state.specs.declared.notes.ThreadNote.{ThreadNote}
 use Rattle.libos_state.specs.declared.state.LibOs.{LibOs}
 use Rattle.libos_state.specs.Records.{Visible, with_visible, base, process_with, thread_with, thread_woken_by, is_set, thread_seen, tids_of, tid_of, target_of, target_by, waiter_of, lists_of, code_of}
-use Rattle.libos_state.specs.Named.{AProcess, AThread, AnEvent, AConsole, is_of, recorded, times_named}
+use Rattle.libos_state.specs.Named.{AProcess, AThread, AnEvent, AStreamOf, is_of, recorded, times_named}
 use Rattle.libos_state.specs.Fits.{FitsRecords, FitsObjects, is_to_name, is_code, has_code}
 use Rattle.libos_state.proofs.Distinct.{some_of, find-counted, find-key}
 use Rattle.libos_state.proofs.Naming.{unrecorded, unrecorded-free, find-passes, list_all-find, find-uncounted, count_by-cons, times_recorded, times_named-append, times_named-recorded, kinds-lists}
@@ -103,9 +103,9 @@ module _ (os : LibOs) (o : Objects) (records : FitsRecords os) (fits : FitsObjec
   no_event other = count_by-wrong (λ (n : ThreadNote). n.event) (λ n. is_of AnEvent (object_at o n.event)) h os.threads
       (λ n same. ap (λ k. is_of AnEvent (object_at o k)) same ∙ other) (kinds-lists os o [] None records fits).events
 
-  no_description : ((kind : Kind) → is_of (AConsole kind) (object_at o h) ≡ false) → count_by (λ (d : Description). d.handle == h) os.descriptions ≡ 0
-  no_description other = count_by-wrong (λ (d : Description). d.handle) (λ d. is_of (AConsole d.kind) (object_at o d.handle)) h os.descriptions
-      (λ d same. ap (λ k. is_of (AConsole d.kind) (object_at o k)) same ∙ other d.kind) (kinds-lists os o [] None records fits).descriptions
+  no_description : ((kind : Kind) → is_of (AStreamOf kind) (object_at o h) ≡ false) → count_by (λ (d : Description). d.handle == h) os.descriptions ≡ 0
+  no_description other = count_by-wrong (λ (d : Description). d.handle) (λ d. is_of (AStreamOf d.kind) (object_at o d.handle)) h os.descriptions
+      (λ d same. ap (λ k. is_of (AStreamOf d.kind) (object_at o k)) same ∙ other d.kind) (kinds-lists os o [] None records fits).descriptions
 
   -- a live number is recorded once
   once : (x : Object) → object_at o h ≡ Some x → times_recorded h os ≡ 1
@@ -120,7 +120,7 @@ module _ (os : LibOs) (o : Objects) (records : FitsRecords os) (fits : FitsObjec
     once (Thread p context) there,
     no_process (ap (is_of AProcess) there),
     no_event (ap (is_of AnEvent) there),
-    no_description (λ kind. ap (is_of (AConsole kind)) there),
+    no_description (λ kind. ap (is_of (AStreamOf kind)) there),
   ))
 
   process_recorded : (memory : Space) (code : Option ℕ) → object_at o h ≡ Some (Process memory code) → is_some (process_with h os.processes) ≡ true
@@ -129,7 +129,7 @@ module _ (os : LibOs) (o : Objects) (records : FitsRecords os) (fits : FitsObjec
     once (Process memory code) there,
     no_thread (ap (is_of AThread) there),
     no_event (ap (is_of AnEvent) there),
-    no_description (λ kind. ap (is_of (AConsole kind)) there),
+    no_description (λ kind. ap (is_of (AStreamOf kind)) there),
   ))
 
   event_recorded : (set : Bool) → object_at o h ≡ Some (Event set) → is_some (thread_woken_by h os.threads) ≡ true
@@ -138,12 +138,12 @@ module _ (os : LibOs) (o : Objects) (records : FitsRecords os) (fits : FitsObjec
     once (Event set) there,
     no_process (ap (is_of AProcess) there),
     no_thread (ap (is_of AThread) there),
-    no_description (λ kind. ap (is_of (AConsole kind)) there),
+    no_description (λ kind. ap (is_of (AStreamOf kind)) there),
   ))
 
   -- no end of a pipe has one
   no_pipe : (x : Object) → object_at o h ≡ Some x → is_of AProcess (Some x) ≡ false → is_of AThread (Some x) ≡ false → is_of AnEvent (Some x) ≡ false
-      → ((kind : Kind) → is_of (AConsole kind) (Some x) ≡ false) → ⊥
+      → ((kind : Kind) → is_of (AStreamOf kind) (Some x) ≡ false) → ⊥
   no_pipe x there process thread event console =
       omega (
         arith,
@@ -151,7 +151,7 @@ module _ (os : LibOs) (o : Objects) (records : FitsRecords os) (fits : FitsObjec
         no_process (ap (is_of AProcess) there ∙ process),
         no_thread (ap (is_of AThread) there ∙ thread),
         no_event (ap (is_of AnEvent) there ∙ event),
-        no_description (λ kind. ap (is_of (AConsole kind)) there ∙ console kind),
+        no_description (λ kind. ap (is_of (AStreamOf kind)) there ∙ console kind),
       )
 
 -- ---- what has come
@@ -170,7 +170,7 @@ module _ (os : LibOs) (w : Visible) (records : FitsRecords os) (fits : FitsObjec
       → has_come (base os w) (target_of os h) ≡ is_some code
   process_come h memory code n there is =
       let handle : n.handle ≡ h = eqb-true n.handle h (find-passes (λ m. m.handle == h) os.processes n is) in
-      let nowhere = find-uncounted (λ (d : Description). d.handle == h) os.descriptions (no_description os o records fits h (λ kind. ap (is_of (AConsole kind)) there)) in
+      let nowhere = find-uncounted (λ (d : Description). d.handle == h) os.descriptions (no_description os o records fits h (λ kind. ap (is_of (AStreamOf kind)) there)) in
       let by_code = list_all-find (λ m. has_code None m (object_at o m.handle)) (λ m. m.handle == h) os.processes n fits.codes is in
       (λ i. has_come (base os w) (target_by (nowhere i) (is i) (thread_woken_by h os.threads)))
       ∙ ap is_some (exit_code_at-base os w n.pid ∙ ap code_of (find-key (λ (m : ProcessNote). m.pid) (λ m. m.handle == h) os.processes n records.pids is))
@@ -179,7 +179,7 @@ module _ (os : LibOs) (w : Visible) (records : FitsRecords os) (fits : FitsObjec
   event_come : (h : ℕ) (set : Bool) (n : ThreadNote) → object_at o h ≡ Some (Event set) → thread_woken_by h os.threads ≡ Some n → has_come (base os w) (target_of os h) ≡ set
   event_come h set n there is =
       let event : n.event ≡ h = eqb-true n.event h (find-passes (λ m. m.event == h) os.threads n is) in
-      let nowhere = find-uncounted (λ (d : Description). d.handle == h) os.descriptions (no_description os o records fits h (λ kind. ap (is_of (AConsole kind)) there)) in
+      let nowhere = find-uncounted (λ (d : Description). d.handle == h) os.descriptions (no_description os o records fits h (λ kind. ap (is_of (AStreamOf kind)) there)) in
       let nobody = find-uncounted (λ (m : ProcessNote). m.handle == h) os.processes (no_process os o records fits h (ap (is_of AProcess) there)) in
       (λ i. has_come (base os w) (target_by (nowhere i) (nobody i) (is i)))
       ∙ ap is_woken (thread_at-base os w n.tid ∙ ap (option_map (thread_seen o.live)) (find-key (λ (m : ThreadNote). m.tid) (λ m. m.event == h) os.threads n records.tids is))

@@ -18,14 +18,14 @@ use Rattle.libos_state.specs.declared.cont.Cont.{Cont}
 use Rattle.libos_state.specs.declared.cont.Event.{Event}
 use Rattle.libos_state.specs.declared.cont.Event.TheVariants as event
 use Rattle.libos_state.specs.declared.cont.Stage.{Stage}
-use Rattle.libos_state.specs.declared.cont.Stage.TheVariants.{CloseStream, CloseHandles, ExitProcess, WriteStream, AllocatePages, FreePages, ProtectPages, Configure, OpenConsole, ReadProgram, CreateProcess, AllocateRun, WriteRun, ProtectRun, AllocateStack, WriteBlock, CreateThread, CreateEvent, StartThread}
+use Rattle.libos_state.specs.declared.cont.Stage.TheVariants.{CloseStream, CloseHandles, ExitProcess, StoreBytes, AppendLength, WriteStream, AllocatePages, FreePages, ProtectPages, Configure, OpenConsole, ReadProgram, CreateProcess, AllocateRun, WriteRun, ProtectRun, AllocateStack, WriteBlock, CreateThread, CreateEvent, StartThread}
 use Rattle.libos_state.specs.declared.state.Boot.{Boot}
 use Rattle.libos_state.specs.declared.state.Boot.TheVariants as boot
 use Rattle.libos_state.specs.declared.state.LibOs.{LibOs}
 use Rattle.libos_state.specs.Records.{process_named, process_with, thread_named}
 use Rattle.libos_state.specs.Pending.{upcall_in, number, is_brk, program_name, arguments, runs_in, run_in}
 use Rattle.libos_state.specs.Named.{named_as, consoles, kinds_at, kept_names}
-use Rattle.libos_state.specs.Fits.{FitsRecords, FitsObjects, KeepsLists, AreNames, FitsKept, FitsMade, are_distinct, is_none, is_given, is_fit_process, is_fit_parent, is_alive, is_described, is_fit_access, is_fit_append, LAST_ID, is_of_start, comes_to, keeps_next, keeps_names, keeps_bytes, numbers_at, is_ended_with, closes_new, counted, ending_at}
+use Rattle.libos_state.specs.Fits.{FitsRecords, FitsObjects, KeepsLists, AreNames, FitsKept, FitsMade, are_distinct, is_none, is_given, is_fit_process, is_fit_parent, is_alive, is_described, is_fit_access, is_fit_append, LAST_ID, is_of_start, comes_to, keeps_next, keeps_names, keeps_bytes, numbers_at, is_ended_with, closes_new, most_stored, writes_at, counted, ending_at}
 
 -- ---- the library OS
 
@@ -168,10 +168,6 @@ abbrev pub keeps_size : Cont → List ℕ → Bool
 keeps_size c (size ∷ []) = nat_le (length c.bytes) size
 keeps_size c _ = false
 
-abbrev pub is_zero_alone : List ℕ → Bool
-is_zero_alone (n ∷ []) = n == 0
-is_zero_alone _ = false
-
 -- The test of `KeepsPages`.
 abbrev pub keeps_pages : Cont → Bool
 keeps_pages c =
@@ -200,9 +196,11 @@ abbrev pub fits_kept : LibOs → Cont → Stage → Bool
 fits_kept os c CloseStream = closes_new os c
 fits_kept os c CloseHandles = keeps_code os c c.numbers
 fits_kept os c ExitProcess = keeps_code os c c.numbers
+fits_kept os c StoreBytes = nat_le (length c.bytes) (most_stored (upcall_in c.event))
+fits_kept os c AppendLength =
+    length c.bytes == moved (register (upcall_in c.event).context 12)
 fits_kept os c WriteStream =
-    is_zero_alone c.numbers
-    && length c.bytes == moved (register (upcall_in c.event).context 12)
+    writes_at os c && length c.bytes == moved (register (upcall_in c.event).context 12)
 fits_kept os c AllocatePages = keeps_made c (is_brk c)
 fits_kept os c FreePages = nat_le 1 (number c 1)
 fits_kept os c ProtectPages = nat_le 1 (number c 1)

@@ -1,22 +1,23 @@
 -- What a service does on a reply, and what a reply changes of the records: one row for each stage.
 -- A reply that the stage doesn't list ends the service; no host that keeps to its contract gives
 -- one.
-use Rattle.std.specs.Prelude.{ℕ, ◌+◌, ◌*◌, ◌==◌, if◌then◌else◌, List, [], ◌∷◌, ◌++◌, length, take, drop, nat_lt, nat_le, false}
+use Rattle.std.specs.Prelude.{ℕ, Bool, ◌+◌, ◌*◌, ◌==◌, true, false, if◌then◌else◌, List, [], ◌∷◌, ◌++◌, length, take, drop, nat_lt, nat_le}
 use Rattle.std.specs.declared.option.Option.{Option}
 use Rattle.std.specs.declared.option.Option.TheVariants.{None, Some}
 use Rattle.std.specs.declared.result.Result.{Result}
 use Rattle.std.specs.declared.result.Result.TheVariants.{Ok, Err}
 use Rattle.abi_calls.specs.declared.reply.Reply.{Reply}
-use Rattle.abi_calls.specs.declared.reply.Reply.TheVariants.{Done, Handle, Bytes, Count, Length, Exists, BadAddress, NoAccess, NoRoom}
+use Rattle.abi_calls.specs.declared.reply.Reply.TheVariants.{Done, Handle, Bytes, Count, Length, Exists, BadAddress, NoAccess, NoRoom, TooBig}
 use Rattle.mono_model.specs.Machine.{register, returned}
-use Rattle.mono_model.specs.Calls.{DUP3, error, ENOMEM, EFAULT, EINVAL}
+use Rattle.mono_model.specs.Calls.{DUP3, error, ENOMEM, EFAULT, EINVAL, EFBIG, advanced}
+use Rattle.mono_model.specs.FileCalls.{READ, LSEEK, sought, status}
 use Rattle.mono_model.specs.Starting.{STACK_PAGE}
 use Rattle.elf_loader.specs.declared.ElfError.{ElfError}
 use Rattle.elf_loader.specs.declared.Program.{Program}
 use Rattle.elf_loader.specs.Image.{loaded}
 use Rattle.libos_state.specs.declared.cont.Cont.{Cont}
 use Rattle.libos_state.specs.declared.cont.Stage.{Stage}
-use Rattle.libos_state.specs.declared.cont.Stage.TheVariants.{SetContext, Resume, CloseEvent, ExitThread, CloseHandles, ExitProcess, ReadBuffer, WriteStream, AllocatePages, FreePages, ProtectPages, Configure, OpenConsole, OpenProgram, ProgramLength, ReadProgram, CloseProgram, CreateProcess, AllocateRun, WriteRun, ProtectRun, AllocateStack, WriteBlock, CreateThread, CreateEvent, StartThread, CloseStream}
+use Rattle.libos_state.specs.declared.cont.Stage.TheVariants.{SetContext, Resume, CloseEvent, ExitThread, CloseHandles, ExitProcess, ReadBuffer, WriteStream, ReadStream, StoreBytes, AppendLength, FileLength, SetFileLength, AllocatePages, FreePages, ProtectPages, Configure, OpenConsole, OpenProgram, ProgramLength, ReadProgram, CloseProgram, CreateProcess, AllocateRun, WriteRun, ProtectRun, AllocateStack, WriteBlock, CreateThread, CreateEvent, StartThread, CloseStream}
 use Rattle.libos_state.specs.declared.notes.Description.{Description}
 use Rattle.libos_state.specs.declared.notes.DescriptorNote.{DescriptorNote}
 use Rattle.libos_state.specs.declared.notes.ProcessNote.{ProcessNote}
@@ -26,13 +27,13 @@ use Rattle.libos_state.specs.declared.notes.Kind.TheVariants.{ConIn, ConOut, Con
 use Rattle.libos_state.specs.declared.state.Boot.TheVariants.{Up, NoProgram, BadProgram}
 use Rattle.libos_state.specs.declared.state.LibOs.{LibOs}
 use Rattle.libos_state.specs.declared.step.Change.{Change}
-use Rattle.libos_state.specs.declared.step.Change.TheVariants.{Same, MovesBreak, Begins, Closes, Replaces}
+use Rattle.libos_state.specs.declared.step.Change.TheVariants.{Same, PutsPosition, MovesPosition, MovesBreak, Begins, Closes, Replaces}
 use Rattle.libos_state.specs.declared.step.Step.{Step}
-use Rattle.libos_state.specs.declared.step.Step.TheVariants.{Asks, GivesBreak, Ends, Stops}
-use Rattle.libos_state.specs.Records.{process_with, description_behind, pid_with}
+use Rattle.libos_state.specs.declared.step.Step.TheVariants.{Asks, GivesBreak, Sends, Ends, Stops}
+use Rattle.libos_state.specs.Records.{process_with, description_behind, pid_with, is_file}
 use Rattle.libos_state.specs.Breaks.{break_of, with_break}
 use Rattle.libos_state.specs.Pending.{upcall_in, handle, number, argument, is_brk, program_in, runs_in, run_in, run_piece, file_or_child}
-use Rattle.libos_state.specs.Descriptors.{with_descriptor, without_stream}
+use Rattle.libos_state.specs.Descriptors.{with_descriptor, without_stream, positioned, moved_over}
 use Rattle.libos_state.specs.Fits.{is_call}
 
 -- The service goes on with these, or has ended.
@@ -67,10 +68,28 @@ gives_break os c =
     let process = process_with (upcall_in c.event).process os.processes in
     goes_on os (service_with_result c (break_of process))
 
+-- The bytes are written to the stream, into a file from an offset on.
+abbrev pub service_writing : Cont → List ℕ → ℕ → Cont
+service_writing c bytes offset =
+    record (bare c WriteStream) { bytes = bytes; numbers = offset ∷ [] }
+
+-- Where the description appends, the length of its file is asked for before.
+abbrev pub service_sending : Cont → Option Description → Cont
+service_sending c None = service_writing c c.bytes 0
+service_sending c (Some d) =
+    if d.append then record (bare c AppendLength) { bytes = c.bytes }
+    else service_writing c c.bytes (if is_file d.kind then d.position else 0)
+
+abbrev pub sends : LibOs → Cont → LibOs
+sends os c =
+    let u = upcall_in c.event in
+    goes_on os (service_sending c (description_behind os u.process (register u.context 10)))
+
 -- The library OS after a step of its service.
 abbrev pub with_step : LibOs → Step → LibOs
 with_step os (Asks c) = goes_on os c
 with_step os (GivesBreak c) = gives_break os c
+with_step os (Sends c) = sends os c
 with_step os Ends = ends os
 with_step os (Stops boot) = record os { boot = boot; cont = None }
 
@@ -90,6 +109,10 @@ with_change os Same = os
 with_change os (Closes handle) = without_stream os handle
 with_change os (Replaces handle process old new) =
     with_duplicate (without_stream os handle) process old new
+with_change os (PutsPosition process fd position) =
+    positioned os position (description_behind os process fd)
+with_change os (MovesPosition process fd count) =
+    moved_over os count (description_behind os process fd)
 with_change os (MovesBreak process address) = with_break os process address
 with_change os (Begins process thread descriptions) = record os {
   next_id = 2;
@@ -117,6 +140,31 @@ abbrev pub changed_step : Cont → ℕ → Reply → Step
 changed_step c refused Done = Asks (service_with_result c 0)
 changed_step c refused BadAddress = Asks (service_with_result c (error refused))
 changed_step c refused _ = Ends
+
+-- The bytes go to the caller's memory from an address on, and then the call has this result.
+abbrev pub service_storing : Cont → ℕ → List ℕ → ℕ → Cont
+service_storing c address bytes result =
+    record (bare c StoreBytes) { bytes = bytes; numbers = address ∷ result ∷ [] }
+
+-- Where no bytes came, the memory isn't asked.
+abbrev pub service_with_bytes : Cont → List ℕ → Cont
+service_with_bytes c bytes =
+    if length bytes == 0 then service_with_result c 0
+    else service_storing c (argument c 1) bytes (length bytes)
+
+-- The result of lseek.
+abbrev pub seek_result : Option ℕ → ℕ
+seek_result None = error EINVAL
+seek_result (Some at) = at
+
+abbrev pub is_lseek : Cont → Bool
+is_lseek c = is_call (upcall_in c.event) LSEEK
+
+-- The length of a file is that from whose end lseek seeks a position, or a part of its status.
+abbrev pub service_with_length : Cont → ℕ → Cont
+service_with_length c size =
+    if is_lseek c then service_with_result c (seek_result (sought size (argument c 1)))
+    else service_storing c (argument c 1) (status true size) 0
 
 -- The event of the thread that ends is closed, and then it exits.
 abbrev pub service_leaving : Cont → ℕ → Cont
@@ -224,10 +272,31 @@ abbrev pub break_change : Cont → Change
 break_change c =
     if is_brk c then MovesBreak (upcall_in c.event).process (argument c 0) else Same
 
--- What a reply changes of the records: what is closed goes, a break moves, and they begin where the
--- first thread has become ready.
+-- The descriptor in a0 names what stands at a position, or moves over so many bytes.
+abbrev pub puts_position : Cont → ℕ → Change
+puts_position c position = PutsPosition (upcall_in c.event).process (argument c 0) position
+
+-- A read that has stored its bytes moves the position of its file; fstat moves none.
+abbrev pub store_change : Cont → Change
+store_change c =
+    if is_call (upcall_in c.event) READ
+    then MovesPosition (upcall_in c.event).process (argument c 0) (length c.bytes)
+    else Same
+
+abbrev pub seek_change : Cont → Option ℕ → Change
+seek_change c None = Same
+seek_change c (Some at) = puts_position c at
+
+abbrev pub length_change : Cont → ℕ → Change
+length_change c size = if is_lseek c then seek_change c (sought size (argument c 1)) else Same
+
+-- What a reply changes of the records: what is closed goes, a position or a break moves, and they
+-- begin where the first thread has become ready.
 abbrev pub change : Cont → Stage → Reply → Change
 change c CloseStream Done = closing_change c
+change c StoreBytes Done = store_change c
+change c WriteStream (Count n) = puts_position c (advanced (number c 0) n)
+change c FileLength (Length size) = length_change c size
 change c AllocatePages Done = break_change c
 change c FreePages Done = break_change c
 change c StartThread Done = Begins (first_process c) (first_thread c) (console_descriptions c)
@@ -239,11 +308,19 @@ next c SetContext Done = Asks (record c { stage = Resume })
 next c CloseStream Done = Asks (record (bare c SetContext) { next = c.next })
 next c CloseEvent Done = Asks (bare c ExitThread)
 next c CloseHandles Done = Asks (service_closing c (drop 1 c.handles))
-next c ReadBuffer (Bytes bytes) =
-    Asks (record (bare c WriteStream) { bytes = bytes; numbers = 0 ∷ [] })
+next c ReadStream (Bytes bytes) = Asks (service_with_bytes c bytes)
+next c StoreBytes Done = Asks (service_with_result c (number c 1))
+next c StoreBytes BadAddress = Asks (service_with_result c (error EFAULT))
+next c StoreBytes NoAccess = Asks (service_with_result c (error EFAULT))
+next c ReadBuffer (Bytes bytes) = Sends (record c { bytes = bytes })
 next c ReadBuffer BadAddress = Asks (service_with_result c (error EFAULT))
 next c ReadBuffer NoAccess = Asks (service_with_result c (error EFAULT))
+next c AppendLength (Length size) = Asks (service_writing c c.bytes size)
 next c WriteStream (Count n) = Asks (service_with_result c n)
+next c WriteStream TooBig = Asks (service_with_result c (error EFBIG))
+next c FileLength (Length size) = Asks (service_with_length c size)
+next c SetFileLength Done = Asks (service_with_result c 0)
+next c SetFileLength TooBig = Asks (service_with_result c (error EFBIG))
 next c AllocatePages reply = if is_brk c then GivesBreak c else mapping_step c reply
 next c FreePages reply = if is_brk c then GivesBreak c else changed_step c EINVAL reply
 next c ProtectPages reply = changed_step c ENOMEM reply

@@ -3,11 +3,12 @@
 use Rattle.std.specs.Prelude.{ℕ, ◌==◌, not, ◌&&◌, nat_lt, if◌then◌else◌, List, ◌∷◌, ◌++◌, map, filter}
 use Rattle.std.specs.declared.option.Option.{Option}
 use Rattle.std.specs.declared.option.Option.TheVariants.{None, Some}
+use Rattle.mono_model.specs.Calls.{advanced}
 use Rattle.libos_state.specs.declared.notes.Description.{Description}
 use Rattle.libos_state.specs.declared.notes.DescriptorNote.{DescriptorNote}
 use Rattle.libos_state.specs.declared.notes.ProcessNote.{ProcessNote}
 use Rattle.libos_state.specs.declared.state.LibOs.{LibOs}
-use Rattle.libos_state.specs.Records.{description_with}
+use Rattle.libos_state.specs.Records.{description_with, is_file}
 
 -- Each process has other descriptors.
 abbrev pub redescribed : (ProcessNote → List DescriptorNote) → ProcessNote → ProcessNote
@@ -47,3 +48,21 @@ without_description os (Some gone) = record (with_descriptors os (naming_others 
 
 abbrev pub without_stream : LibOs → ℕ → LibOs
 without_stream os handle = without_description os (description_with handle os.descriptions)
+
+-- The position of an open description.
+abbrev pub note_at : ℕ → ℕ → Description → Description
+note_at id position d =
+    record d { position = if d.id == id then position else d.position }
+
+abbrev pub with_position : LibOs → ℕ → ℕ → LibOs
+with_position os id position =
+    record os { descriptions = map (note_at id position) os.descriptions }
+
+-- What a descriptor names is at a position, where it is a file; or it moves over so many bytes.
+abbrev pub positioned : LibOs → ℕ → Option Description → LibOs
+positioned os position None = os
+positioned os position (Some d) = if is_file d.kind then with_position os d.id position else os
+
+abbrev pub moved_over : LibOs → ℕ → Option Description → LibOs
+moved_over os count None = os
+moved_over os count (Some d) = positioned os (advanced d.position count) (Some d)

@@ -1,5 +1,5 @@
 -- How a service begins: with a trap, or with the start of a run.
-use Rattle.std.specs.Prelude.{ℕ, ◌/◌, ◌%◌, ◌==◌, Bool, not, ◌&&◌, if◌then◌else◌, List, [], ◌∷◌, ◌++◌, map, filter, filter_map, bit_and, nat_lt, is_some, replicate, false}
+use Rattle.std.specs.Prelude.{ℕ, ◌/◌, ◌%◌, ◌==◌, Bool, not, ◌&&◌, if◌then◌else◌, List, [], ◌∷◌, ◌++◌, map, filter, filter_map, bit_and, nat_lt, is_some, replicate, ◌^◌, false}
 use Rattle.std.specs.List.{list_any}
 use Rattle.std.specs.Option.{option_map}
 use Rattle.std.specs.declared.option.Option.{Option}
@@ -8,7 +8,9 @@ use Rattle.turn_sched.specs.Lists.{without}
 use Rattle.turn_sched.specs.declared.settings.Settings.{Settings}
 use Rattle.abi_calls.specs.declared.threads.Upcall.{Upcall}
 use Rattle.mono_model.specs.Machine.{register, returned}
-use Rattle.mono_model.specs.Calls.{WRITE, BRK, MUNMAP, MMAP, MPROTECT, EBADF, ENOSYS, error, munmap_known, mmap_known, mprotect_known, fault_code, SCHED_YIELD, GETPID, GETPPID, GETTID, is_exit, EXIT, DUP, DUP3, CLOSE, EMFILE, dup3_known}
+use Rattle.mono_model.specs.Calls.{WRITE, BRK, MUNMAP, MMAP, MPROTECT, EBADF, EINVAL, ENOSYS, error, munmap_known, mmap_known, mprotect_known, SCHED_YIELD, GETPID, GETPPID, GETTID, is_exit, EXIT, DUP, DUP3, CLOSE, EMFILE, dup3_known}
+use Rattle.mono_model.specs.SystemCalls.{fault_code}
+use Rattle.mono_model.specs.FileCalls.{FTRUNCATE, LSEEK, READ, FSTAT, ESPIPE, sought, status}
 use Rattle.guest_space.specs.First.{first_some}
 use Rattle.mono_model.specs.Descriptors.{DESCRIPTORS}
 use Rattle.mono_model.specs.Mapping.{FIRST_MAPPED, pages_for}
@@ -17,17 +19,17 @@ use Rattle.mono_model.specs.declared.breaks.BreakMove.TheVariants.{Grows, Shrink
 use Rattle.libos_state.specs.declared.cont.Cont.{Cont}
 use Rattle.libos_state.specs.declared.cont.Event.TheVariants as event
 use Rattle.libos_state.specs.declared.cont.Stage.{Stage}
-use Rattle.libos_state.specs.declared.cont.Stage.TheVariants.{SetContext, CloseStream, ReadBuffer, AllocatePages, FreePages, ProtectPages, Configure}
+use Rattle.libos_state.specs.declared.cont.Stage.TheVariants.{SetContext, CloseStream, ReadStream, ReadBuffer, FileLength, SetFileLength, AllocatePages, FreePages, ProtectPages, Configure}
 use Rattle.libos_state.specs.declared.notes.Description.{Description}
 use Rattle.libos_state.specs.declared.notes.DescriptorNote.{DescriptorNote}
 use Rattle.libos_state.specs.declared.notes.ProcessNote.{ProcessNote}
 use Rattle.libos_state.specs.declared.notes.ThreadNote.{ThreadNote}
 use Rattle.libos_state.specs.declared.state.Boot.TheVariants.{Going}
 use Rattle.libos_state.specs.declared.state.LibOs.{LibOs}
-use Rattle.libos_state.specs.Records.{process_named, process_with, thread_named, thread_with, description_named, description_behind, pid_with, tid_with, event_in, descriptor_named}
+use Rattle.libos_state.specs.Records.{process_named, process_with, thread_named, thread_with, description_named, description_behind, pid_with, tid_with, event_in, descriptor_named, is_file}
 use Rattle.libos_state.specs.Breaks.{break_goes, with_break}
-use Rattle.libos_state.specs.Answered.{goes_on, gives_break, service_with_result, service_closing, service_leaving, bare}
-use Rattle.libos_state.specs.Descriptors.{without_descriptor, with_descriptor}
+use Rattle.libos_state.specs.Answered.{goes_on, gives_break, service_with_result, service_storing, service_closing, service_leaving, bare}
+use Rattle.libos_state.specs.Descriptors.{without_descriptor, with_descriptor, with_position}
 use Rattle.libos_state.specs.Fits.{is_described}
 use Rattle.libos_state.specs.Pending.{upcall_in}
 
@@ -47,14 +49,59 @@ entered_with u = record {
 abbrev pub result_of : LibOs → Upcall → ℕ → LibOs
 result_of os u result = goes_on os (service_with_result (entered_with u) result)
 
+-- A stage that keeps nothing.
+abbrev pub stage_of : LibOs → Upcall → Stage → LibOs
+stage_of os u stage = goes_on os (record (entered_with u) { stage = stage })
+
 -- write: the result is known at once where the descriptor isn't open for writing, and of no bytes.
 abbrev pub write_entered : LibOs → Upcall → Option Description → LibOs
 write_entered os u None = result_of os u (error EBADF)
 write_entered os u (Some d) =
     if bit_and d.access 2 == 2
     then (if register u.context 12 == 0 then result_of os u 0
-    else goes_on os (record (entered_with u) { stage = ReadBuffer }))
+    else stage_of os u ReadBuffer)
     else result_of os u (error EBADF)
+
+-- read: the result is known at once where the descriptor isn't open for reading, and of no bytes.
+abbrev pub read_entered : LibOs → Upcall → Option Description → LibOs
+read_entered os u None = result_of os u (error EBADF)
+read_entered os u (Some d) =
+    if bit_and d.access 1 == 1
+    then (if register u.context 12 == 0 then result_of os u 0 else stage_of os u ReadStream)
+    else result_of os u (error EBADF)
+
+-- lseek: the length of the file is asked for where the offset counts from its end.
+abbrev pub seek_to : LibOs → Upcall → ℕ → Option ℕ → LibOs
+seek_to os u id None = result_of os u (error EINVAL)
+seek_to os u id (Some at) = result_of (with_position os id at) u at
+
+abbrev pub seek_by : LibOs → Upcall → Description → ℕ → LibOs
+seek_by os u d whence =
+    if nat_lt 2 whence then result_of os u (error EINVAL)
+    else (if whence == 2 then stage_of os u FileLength
+    else seek_to os u d.id
+    (sought (if whence == 0 then 0 else d.position) (register u.context 11)))
+
+abbrev pub lseek_entered : LibOs → Upcall → Option Description → LibOs
+lseek_entered os u None = result_of os u (error EBADF)
+lseek_entered os u (Some d) =
+    if is_file d.kind then seek_by os u d (register u.context 12)
+    else result_of os u (error ESPIPE)
+
+-- fstat: an end of the console has no length.
+abbrev pub fstat_entered : LibOs → Upcall → Option Description → LibOs
+fstat_entered os u None = result_of os u (error EBADF)
+fstat_entered os u (Some d) =
+    if is_file d.kind then stage_of os u FileLength
+    else goes_on os (service_storing (entered_with u) (register u.context 11) (status false 0) 0)
+
+-- ftruncate: the file is open for writing, and the length is a position.
+abbrev pub ftruncate_entered : LibOs → Upcall → Option Description → LibOs
+ftruncate_entered os u None = result_of os u (error EBADF)
+ftruncate_entered os u (Some d) =
+    if is_file d.kind && (bit_and d.access 2 == 2 && nat_lt (register u.context 11) (2 ^ 63))
+    then stage_of os u SetFileLength
+    else result_of os u (error EINVAL)
 
 -- A descriptor of a process other than p names the description.
 abbrev pub names_description : ℕ → ℕ → ProcessNote → Bool
@@ -265,12 +312,21 @@ descriptor_entered os u number =
     else (if number == DUP3 then dup3_unless os u (dup3_known u.context)
     else memory_entered os u number))
 
+abbrev pub file_entered : LibOs → Upcall → ℕ → LibOs
+file_entered os u number =
+    let described = description_behind os u.process (register u.context 10) in
+    if number == READ then read_entered os u described
+    else (if number == LSEEK then lseek_entered os u described
+    else (if number == FSTAT then fstat_entered os u described
+    else (if number == FTRUNCATE then ftruncate_entered os u described
+    else descriptor_entered os u number)))
+
 abbrev pub call_entered : LibOs → Upcall → ℕ → LibOs
 call_entered os u number =
     if number == WRITE
     then write_entered os u (description_behind os u.process (register u.context 10))
     else (if is_exit number then exit_entered os u number
-    else descriptor_entered os u number)
+    else file_entered os u number)
 
 -- The library OS that begins to serve a trap.
 abbrev pub entered : LibOs → Upcall → LibOs

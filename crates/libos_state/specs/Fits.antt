@@ -15,6 +15,7 @@ use Rattle.abi_calls.specs.Objects.{Object, Objects, object_at, running, is_thre
 use Rattle.abi_calls.specs.Processes.{is_acceptable}
 use Rattle.mono_model.specs.Machine.{register}
 use Rattle.mono_model.specs.Calls.{WRITE, BRK, MUNMAP, MMAP, MPROTECT, moved, munmap_known, mmap_known, mprotect_known, is_exit, EXIT, DUP3, CLOSE}
+use Rattle.mono_model.specs.FileCalls.{FTRUNCATE, LSEEK, READ, FSTAT}
 use Rattle.mono_model.specs.Mapping.{MOST_PAGES, FIRST_MAPPED}
 use Rattle.mono_model.specs.declared.breaks.BreakMove.{BreakMove}
 use Rattle.mono_model.specs.declared.breaks.BreakMove.TheVariants.{Grows, Shrinks}
@@ -25,16 +26,16 @@ use Rattle.libos_state.specs.declared.cont.Cont.{Cont}
 use Rattle.libos_state.specs.declared.cont.Event.{Event}
 use Rattle.libos_state.specs.declared.cont.Event.TheVariants as event
 use Rattle.libos_state.specs.declared.cont.Stage.{Stage}
-use Rattle.libos_state.specs.declared.cont.Stage.TheVariants.{SetContext, Resume, CloseEvent, ExitThread, CloseHandles, ExitProcess, ReadBuffer, WriteStream, AllocatePages, FreePages, ProtectPages, Configure, OpenConsole, OpenProgram, ProgramLength, ReadProgram, CreateProcess, AllocateRun, WriteRun, ProtectRun, AllocateStack, WriteBlock, CreateThread, CreateEvent, StartThread, CloseStream}
+use Rattle.libos_state.specs.declared.cont.Stage.TheVariants.{SetContext, Resume, CloseEvent, ExitThread, CloseHandles, ExitProcess, ReadBuffer, WriteStream, ReadStream, StoreBytes, AppendLength, FileLength, SetFileLength, AllocatePages, FreePages, ProtectPages, Configure, OpenConsole, OpenProgram, ProgramLength, ReadProgram, CreateProcess, AllocateRun, WriteRun, ProtectRun, AllocateStack, WriteBlock, CreateThread, CreateEvent, StartThread, CloseStream}
 use Rattle.libos_state.specs.declared.notes.Description.{Description}
 use Rattle.libos_state.specs.declared.notes.Kind.{Kind}
-use Rattle.libos_state.specs.declared.notes.Kind.TheVariants.{ConIn, ConOut, ConErr}
+use Rattle.libos_state.specs.declared.notes.Kind.TheVariants.{ConIn, ConOut, ConErr, File}
 use Rattle.libos_state.specs.declared.notes.ProcessNote.{ProcessNote}
 use Rattle.libos_state.specs.declared.notes.ThreadNote.{ThreadNote}
 use Rattle.libos_state.specs.declared.state.Boot.{Boot}
 use Rattle.libos_state.specs.declared.state.Boot.TheVariants as boot
 use Rattle.libos_state.specs.declared.state.LibOs.{LibOs}
-use Rattle.libos_state.specs.Records.{process_named, process_with, thread_named, thread_with, description_named, description_behind}
+use Rattle.libos_state.specs.Records.{process_named, process_with, thread_named, thread_with, description_named, description_behind, is_file}
 use Rattle.libos_state.specs.Breaks.{break_goes}
 use Rattle.libos_state.specs.Pending.{upcall_in, handle, number, is_brk, program_name, arguments, file_or_child, runs_in, run_in}
 use Rattle.libos_state.specs.Descriptors.{without_stream}
@@ -68,17 +69,19 @@ abbrev pub is_alive : Option ProcessNote → Bool
 is_alive None = false
 is_alive (Some n) = not (is_some n.code)
 
--- Console input is open to be read, and its output and errors to be written.
+-- Console input is open to be read, its output and errors to be written, a file for either or both.
 abbrev pub is_fit_access : Kind → ℕ → Bool
 is_fit_access ConIn access = access == 1
 is_fit_access ConOut access = access == 2
 is_fit_access ConErr access = access == 2
+is_fit_access File access = nat_le 1 access && nat_le access 3
 
 -- What is written to the console goes to no file's end.
 abbrev pub is_fit_append : Kind → Bool → Bool
 is_fit_append ConIn append = not append
 is_fit_append ConOut append = not append
 is_fit_append ConErr append = not append
+is_fit_append File append = true
 
 -- A process has the description open.
 abbrev pub is_described : LibOs → ℕ → Bool
@@ -160,8 +163,13 @@ is_of_start CloseEvent = false
 is_of_start ExitThread = false
 is_of_start CloseHandles = false
 is_of_start ExitProcess = false
+is_of_start ReadStream = false
+is_of_start StoreBytes = false
 is_of_start ReadBuffer = false
+is_of_start AppendLength = false
 is_of_start WriteStream = false
+is_of_start FileLength = false
+is_of_start SetFileLength = false
 is_of_start AllocatePages = false
 is_of_start FreePages = false
 is_of_start ProtectPages = false
@@ -175,6 +183,19 @@ abbrev pub is_writable : Option Description → Bool
 is_writable None = false
 is_writable (Some d) = bit_and d.access 2 == 2
 
+abbrev pub is_readable : Option Description → Bool
+is_readable None = false
+is_readable (Some d) = bit_and d.access 1 == 1
+
+-- What a descriptor names is there, is a file, or a file that each write goes to the end of.
+abbrev pub is_open_file : Option Description → Bool
+is_open_file None = false
+is_open_file (Some d) = is_file d.kind
+
+abbrev pub is_appended : Option Description → Bool
+is_appended None = false
+is_appended (Some d) = d.append
+
 -- The trap is a call that ends its thread or the process.
 abbrev pub is_exit_call : Upcall → Bool
 is_exit_call u = u.cause == 8 && is_exit (register u.context 17)
@@ -184,6 +205,36 @@ abbrev pub writes : LibOs → Upcall → Bool
 writes os u =
     is_call u WRITE && (not (register u.context 12 == 0)
     && is_writable (description_behind os u.process (register u.context 10)))
+
+-- A read of some bytes from a descriptor that is open for reading.
+abbrev pub reads : LibOs → Upcall → Bool
+reads os u =
+    is_call u READ && (not (register u.context 12 == 0)
+    && is_readable (description_behind os u.process (register u.context 10)))
+
+-- A write to the end of a file.
+abbrev pub appends : LibOs → Upcall → Bool
+appends os u =
+    writes os u && is_appended (description_behind os u.process (register u.context 10))
+
+-- A call whose bytes are stored: a read, or fstat of an open descriptor.
+abbrev pub stores : LibOs → Upcall → Bool
+stores os u =
+    reads os u
+    || (is_call u FSTAT && is_some (description_behind os u.process (register u.context 10)))
+
+-- A call that asks for a file's length: lseek from its end, or fstat.
+abbrev pub measures : LibOs → Upcall → Bool
+measures os u =
+    (is_call u FSTAT || (is_call u LSEEK && register u.context 12 == 2))
+    && is_open_file (description_behind os u.process (register u.context 10))
+
+-- ftruncate of a file that is open for writing, to a length that is a position.
+abbrev pub resizes : LibOs → Upcall → Bool
+resizes os u =
+    let described = description_behind os u.process (register u.context 10) in
+    is_call u FTRUNCATE && (is_open_file described
+    && (is_writable described && nat_lt (register u.context 11) (2 ^ 63)))
 
 abbrev pub is_recorded : LibOs → Upcall → Bool
 is_recorded os u = is_some (thread_with u.thread os.threads)
@@ -222,8 +273,13 @@ comes_to os u CloseEvent = is_call u EXIT
 comes_to os u ExitThread = is_call u EXIT
 comes_to os u CloseHandles = not (u.cause == 8) || is_exit_call u
 comes_to os u ExitProcess = not (u.cause == 8) || is_exit_call u
+comes_to os u ReadStream = reads os u && is_recorded os u
+comes_to os u StoreBytes = stores os u && is_recorded os u
 comes_to os u ReadBuffer = writes os u && is_recorded os u
+comes_to os u AppendLength = appends os u && is_recorded os u
 comes_to os u WriteStream = writes os u && is_recorded os u
+comes_to os u FileLength = measures os u && is_recorded os u
+comes_to os u SetFileLength = resizes os u && is_recorded os u
 comes_to os u AllocatePages =
     is_undecided os u MMAP (mmap_known u.context) || moves_break os u is_growth
 comes_to os u FreePages =
@@ -273,7 +329,10 @@ keeps_bytes CloseEvent = false
 keeps_bytes ExitThread = false
 keeps_bytes CloseHandles = false
 keeps_bytes ExitProcess = false
+keeps_bytes ReadStream = false
 keeps_bytes ReadBuffer = false
+keeps_bytes FileLength = false
+keeps_bytes SetFileLength = false
 keeps_bytes AllocatePages = false
 keeps_bytes FreePages = false
 keeps_bytes ProtectPages = false
@@ -286,6 +345,7 @@ keeps_bytes _ = true
 abbrev pub numbers_at : Stage → ℕ
 numbers_at CloseHandles = 1
 numbers_at ExitProcess = 1
+numbers_at StoreBytes = 2
 numbers_at WriteStream = 1
 numbers_at AllocatePages = 2
 numbers_at FreePages = 2
@@ -378,13 +438,26 @@ closes_new os c =
     not (is_call u DUP3)
     || is_handle_of (description_behind os u.process (register u.context 11)) (handle c 0)
 
+-- How many bytes a call stores at most: those of a status, or those that a read asks for.
+abbrev pub most_stored : Upcall → ℕ
+most_stored u = if is_call u FSTAT then 128 else moved (register u.context 12)
+
+-- What isn't written to a file has no offset.
+abbrev pub writes_at : LibOs → Cont → Bool
+writes_at os c =
+    let u = upcall_in c.event in
+    is_open_file (description_behind os u.process (register u.context 10)) || number c 0 == 0
+
 -- What a service keeps fits its event.
 abbrev pub FitsKept : LibOs → Cont → Stage → Type 0
 FitsKept os c CloseStream = closes_new os c ≡ true
 FitsKept os c CloseHandles = KeepsCode os c
 FitsKept os c ExitProcess = KeepsCode os c
+FitsKept os c StoreBytes = length c.bytes ≤ most_stored (upcall_in c.event)
+FitsKept os c AppendLength = length c.bytes ≡ moved (register (upcall_in c.event).context 12)
 FitsKept os c WriteStream =
-    (c.numbers ≡ 0 ∷ []) × (length c.bytes ≡ moved (register (upcall_in c.event).context 12))
+    (writes_at os c ≡ true)
+    × (length c.bytes ≡ moved (register (upcall_in c.event).context 12))
 FitsKept os c AllocatePages = KeepsMade c (is_brk c)
 FitsKept os c FreePages = 1 ≤ number c 1
 FitsKept os c ProtectPages = 1 ≤ number c 1

@@ -1,6 +1,6 @@
 -- What the library OS and a world stand for: the monolithic machine at the end of the current turn,
 -- or what the start that is going on leads to.
-use Rattle.std.specs.Prelude.{ℕ, ◌+◌, ◌-◌, ◌*◌, if◌then◌else◌, List, [], ◌++◌, length, take, drop}
+use Rattle.std.specs.Prelude.{ℕ, ◌+◌, ◌-◌, ◌*◌, if◌then◌else◌, List, ◌++◌, length, take, drop}
 use Rattle.std.specs.declared.option.Option.{Option}
 use Rattle.std.specs.declared.option.Option.TheVariants.{None, Some}
 use Rattle.rv_core.specs.declared.context.Context.{Context}
@@ -9,20 +9,21 @@ use Rattle.bas_edge.specs.Files.{file_bytes}
 use Rattle.bas_names.specs.declared.StreamName.{StreamName}
 use Rattle.bas_names.specs.declared.StreamName.TheVariants as stream
 use Rattle.abi_calls.specs.Objects.{object_at}
-use Rattle.abi_calls.specs.Streams.{stream_of}
 use Rattle.abi_calls.specs.declared.threads.Upcall.{Upcall}
 use Rattle.mono_model.specs.Machine.{Mono, resumed, made_ready}
 use Rattle.mono_model.specs.Written.{Written, nothing}
-use Rattle.mono_model.specs.Calls.{Caller, Trap, Served, silently, served, write_bytes, grow_break, shrink_break, map_from, free_pages, protect_pages}
+use Rattle.mono_model.specs.Calls.{Caller, Trap, Served, silently, write_at, bytes_of, grow_break, shrink_break, map_from, free_pages, protect_pages}
+use Rattle.mono_model.specs.FileCalls.{stored}
+use Rattle.mono_model.specs.SystemCalls.{served}
 use Rattle.mono_model.specs.Starting.{Job, Started, Runs, NoProgram, BadProgram, blank_under, started, started_with, begun, start_context, loaded, filled_from, with_rights_of, stacked, with_block}
 use Rattle.libos_state.specs.declared.cont.Cont.{Cont}
 use Rattle.libos_state.specs.declared.cont.Stage.{Stage}
-use Rattle.libos_state.specs.declared.cont.Stage.TheVariants.{SetContext, Resume, CloseEvent, ExitThread, CloseHandles, ExitProcess, ReadBuffer, WriteStream, AllocatePages, FreePages, ProtectPages, Configure, OpenConsole, OpenProgram, ProgramLength, ReadProgram, CloseProgram, CreateProcess, AllocateRun, WriteRun, ProtectRun, AllocateStack, WriteBlock, CreateThread, CreateEvent, StartThread, CloseStream}
+use Rattle.libos_state.specs.declared.cont.Stage.TheVariants.{SetContext, Resume, CloseEvent, ExitThread, CloseHandles, ExitProcess, ReadBuffer, WriteStream, ReadStream, StoreBytes, AppendLength, FileLength, SetFileLength, AllocatePages, FreePages, ProtectPages, Configure, OpenConsole, OpenProgram, ProgramLength, ReadProgram, CloseProgram, CreateProcess, AllocateRun, WriteRun, ProtectRun, AllocateStack, WriteBlock, CreateThread, CreateEvent, StartThread, CloseStream}
 use Rattle.libos_state.specs.declared.notes.Description.{Description}
 use Rattle.libos_state.specs.declared.state.Boot.{Boot}
 use Rattle.libos_state.specs.declared.state.Boot.TheVariants as boot
 use Rattle.libos_state.specs.declared.state.LibOs.{LibOs}
-use Rattle.libos_state.specs.Records.{Visible, base, thread_with, stream_of_kind, description_behind, memory_of_object, context_of, tid_of, pid_with}
+use Rattle.libos_state.specs.Records.{Visible, base, thread_with, description_seen, file_seen, description_behind, memory_of_object, context_of, tid_of, pid_with}
 use Rattle.libos_state.specs.Pending.{upcall_in, handle, number, program_name, arguments, argument, is_brk, file_or_child, no_positions, program_in, runs_in, run_in}
 use Rattle.libos_state.specs.Answered.{with_change, closing_change}
 
@@ -38,13 +39,14 @@ caller_of os u = record {
 abbrev pub caller_in : LibOs → Cont → Caller
 caller_in os c = caller_of os (upcall_in c.event)
 
-abbrev pub stream_described : Option Description → StreamName
-stream_described None = stream.ConIn
-stream_described (Some d) = stream_of_kind d.kind
+abbrev pub stream_described : Visible → Option Description → StreamName
+stream_described w None = stream.ConIn
+stream_described w (Some d) = (description_seen w.objects.live d).stream
 
 -- The stream of the descriptor in a0.
-abbrev pub stream_in : LibOs → Cont → StreamName
-stream_in os c = stream_described (description_behind os (upcall_in c.event).process (argument c 0))
+abbrev pub stream_in : LibOs → Visible → Cont → StreamName
+stream_in os w c =
+    stream_described w (description_behind os (upcall_in c.event).process (argument c 0))
 
 -- The machine before the start, with what the host has of it.
 abbrev pub unstarted : Visible → Mono
@@ -53,17 +55,10 @@ unstarted w = blank_under w.rules w.objects.settings w.objects.positions w.conte
 abbrev pub job_in : Cont → Job
 job_in c = record { name = program_name c; args = arguments c }
 
-abbrev pub name_in : Option StreamName → List ℕ
-name_in (Some (stream.File name)) = name
-name_in (Some stream.ConIn) = []
-name_in (Some stream.ConOut) = []
-name_in (Some stream.ConErr) = []
-name_in None = []
-
 -- The bytes of the open file of the program.
 abbrev pub program_file : Visible → Cont → List ℕ
 program_file w c =
-    file_bytes w.contents.files (name_in (stream_of (object_at w.objects (file_or_child c))))
+    file_bytes w.contents.files (file_seen (object_at w.objects (file_or_child c)))
 
 -- The memory of the process that is made.
 abbrev pub child_memory : Visible → Cont → Space
@@ -111,9 +106,17 @@ meant_at os w c CloseEvent = settles (Runs (base os w))
 meant_at os w c ExitThread = settles (Runs (base os w))
 meant_at os w c CloseHandles = settles (Runs (base os w))
 meant_at os w c ExitProcess = settles (Runs (base os w))
+meant_at os w c ReadStream = leads_to (served (base os w) (caller_in os c) (trap_in c))
+meant_at os w c StoreBytes =
+    settles (Runs (stored (base os w) (caller_in os c) (number c 0) c.bytes (number c 1)))
 meant_at os w c ReadBuffer = leads_to (served (base os w) (caller_in os c) (trap_in c))
+meant_at os w c AppendLength =
+    let offset = length (bytes_of (base os w) (stream_in os w c)) in
+    leads_to (write_at (base os w) (caller_in os c) offset c.bytes (stream_in os w c))
 meant_at os w c WriteStream =
-    leads_to (write_bytes (base os w) (caller_in os c) (stream_in os c) c.bytes)
+    leads_to (write_at (base os w) (caller_in os c) (number c 0) c.bytes (stream_in os w c))
+meant_at os w c FileLength = leads_to (served (base os w) (caller_in os c) (trap_in c))
+meant_at os w c SetFileLength = leads_to (served (base os w) (caller_in os c) (trap_in c))
 meant_at os w c AllocatePages =
     leads_to (silently (if is_brk c
     then grow_break (base os w) (caller_in os c) (number c 0) (number c 1)

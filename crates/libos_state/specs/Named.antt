@@ -10,36 +10,35 @@ use Rattle.libos_state.specs.declared.cont.Cont.{Cont}
 use Rattle.libos_state.specs.declared.cont.Stage.{Stage}
 use Rattle.libos_state.specs.declared.cont.Stage.TheVariants.{CloseEvent, ExitThread, CloseHandles, OpenConsole, OpenProgram, ProgramLength, ReadProgram, CloseProgram, CreateProcess, AllocateRun, WriteRun, ProtectRun, AllocateStack, WriteBlock, CreateThread, CreateEvent, StartThread, CloseStream}
 use Rattle.libos_state.specs.declared.notes.Kind.{Kind}
-use Rattle.libos_state.specs.declared.notes.Kind.TheVariants.{ConIn, ConOut, ConErr}
+use Rattle.libos_state.specs.declared.notes.Kind.TheVariants.{ConIn, ConOut, ConErr, File}
 use Rattle.libos_state.specs.declared.state.LibOs.{LibOs}
 use Rattle.libos_state.specs.Pending.{upcall_in}
 use Rattle.libos_state.specs.declared.notes.Description.{Description}
 use Rattle.libos_state.specs.Records.{description_with}
 
--- The kind of object that a place asks: a process, a thread, an event, an end of the console, a
+-- The kind of object that a place asks: a process, a thread, an event, an end of the console or a
 -- file, any stream, or anything that can be closed.
 pub data ObjectKind : Type 0 where
   AProcess : ObjectKind
   AThread : ObjectKind
   AnEvent : ObjectKind
-  AConsole : Kind → ObjectKind
-  AFile : ObjectKind
+  AStreamOf : Kind → ObjectKind
   AStream : ObjectKind
   ToClose : ObjectKind
 
-abbrev pub is_console : Kind → StreamName → Bool
-is_console ConIn stream.ConIn = true
-is_console ConOut stream.ConOut = true
-is_console ConErr stream.ConErr = true
-is_console _ _ = false
+abbrev pub is_stream_of : Kind → StreamName → Bool
+is_stream_of ConIn stream.ConIn = true
+is_stream_of ConOut stream.ConOut = true
+is_stream_of ConErr stream.ConErr = true
+is_stream_of File (stream.File name) = true
+is_stream_of _ _ = false
 
 -- An object is of a kind.
 abbrev pub is_of : ObjectKind → Option Object → Bool
 is_of AProcess (Some (Process memory code)) = true
 is_of AThread (Some (Thread process context)) = true
 is_of AnEvent (Some (Event set)) = true
-is_of (AConsole kind) (Some (Stream name)) = is_console kind name
-is_of AFile (Some (Stream (stream.File name))) = true
+is_of (AStreamOf kind) (Some (Stream name)) = is_stream_of kind name
 is_of AStream (Some (Stream name)) = true
 is_of AStream (Some (ReadEnd pipe)) = true
 is_of AStream (Some (WriteEnd pipe)) = true
@@ -57,7 +56,7 @@ recorded os =
     map (λ n. (n.handle, AProcess)) os.processes ++
     (map (λ n. (n.handle, AThread)) os.threads ++
     (map (λ n. (n.event, AnEvent)) os.threads ++
-    map (λ d. (d.handle, AConsole d.kind)) os.descriptions))
+    map (λ d. (d.handle, AStreamOf d.kind)) os.descriptions))
 
 -- Handles of these kinds, one after another.
 abbrev pub named_as : List ℕ → List ObjectKind → List Named
@@ -65,7 +64,7 @@ named_as (h ∷ hs) (kind ∷ kinds) = (h, kind) ∷ named_as hs kinds
 named_as _ _ = []
 
 abbrev pub consoles : List ObjectKind
-consoles = AConsole ConIn ∷ AConsole ConOut ∷ AConsole ConErr ∷ []
+consoles = AStreamOf ConIn ∷ AStreamOf ConOut ∷ AStreamOf ConErr ∷ []
 
 -- What the handles are that a stage keeps: a stream that is closed; the event of a thread that
 -- ends; at a start the ends of the console, of which not all may be open yet, then the program's
@@ -75,9 +74,9 @@ kinds_at CloseStream = AStream ∷ []
 kinds_at CloseEvent = AnEvent ∷ []
 kinds_at OpenConsole = consoles
 kinds_at OpenProgram = consoles
-kinds_at ProgramLength = consoles ++ AFile ∷ []
-kinds_at ReadProgram = consoles ++ AFile ∷ []
-kinds_at CloseProgram = consoles ++ AFile ∷ []
+kinds_at ProgramLength = consoles ++ AStreamOf File ∷ []
+kinds_at ReadProgram = consoles ++ AStreamOf File ∷ []
+kinds_at CloseProgram = consoles ++ AStreamOf File ∷ []
 kinds_at CreateProcess = consoles
 kinds_at AllocateRun = consoles ++ AProcess ∷ []
 kinds_at WriteRun = consoles ++ AProcess ∷ []
@@ -92,7 +91,7 @@ kinds_at _ = []
 -- A stream that is closed is of the kind of its description, where it still has one.
 abbrev pub kind_described : Option Description → ObjectKind
 kind_described None = AStream
-kind_described (Some d) = AConsole d.kind
+kind_described (Some d) = AStreamOf d.kind
 
 abbrev pub closed_name : LibOs → ℕ → Named
 closed_name os h = (h, kind_described (description_with h os.descriptions))

@@ -3,7 +3,7 @@ use Rattle.std.specs.Prelude.{ℕ, ◌+◌, ◌-◌, ◌*◌, ◌%◌, ◌==◌,
 use Rattle.std.specs.declared.option.Option.{Option}
 use Rattle.std.specs.declared.option.Option.TheVariants.{None, Some}
 use Rattle.abi_calls.specs.declared.call.Call.{Call}
-use Rattle.abi_calls.specs.declared.call.Call.TheVariants.{MemoryAllocate, MemoryFree, MemoryProtect, MemoryRead, MemoryWrite, ThreadCreate, ThreadResume, ThreadExit, ThreadContext, EventCreate, StreamOpen, StreamRead, StreamWrite, StreamLength, Close, ProcessCreate, ProcessExit, Configure}
+use Rattle.abi_calls.specs.declared.call.Call.TheVariants.{MemoryAllocate, MemoryFree, MemoryProtect, MemoryRead, MemoryWrite, ThreadCreate, ThreadResume, ThreadExit, ThreadContext, EventCreate, StreamOpen, StreamRead, StreamWrite, StreamLength, StreamSetLength, Close, ProcessCreate, ProcessExit, Configure}
 use Rattle.bas_names.specs.declared.StreamName.{StreamName}
 use Rattle.bas_names.specs.declared.StreamName.TheVariants.{File, ConIn, ConOut, ConErr}
 use Rattle.turn_sched.specs.declared.settings.Positions.{Positions}
@@ -19,7 +19,7 @@ use Rattle.libos_state.specs.declared.cont.Cont.{Cont}
 use Rattle.libos_state.specs.declared.cont.Event.{Event}
 use Rattle.libos_state.specs.declared.cont.Event.TheVariants.{Boot, Up}
 use Rattle.libos_state.specs.declared.cont.Stage.{Stage}
-use Rattle.libos_state.specs.declared.cont.Stage.TheVariants.{SetContext, Resume, CloseEvent, ExitThread, CloseHandles, ExitProcess, ReadBuffer, WriteStream, AllocatePages, FreePages, ProtectPages, OpenConsole, OpenProgram, ProgramLength, ReadProgram, CloseProgram, CreateProcess, AllocateRun, WriteRun, ProtectRun, AllocateStack, WriteBlock, CreateThread, CreateEvent, StartThread, CloseStream}
+use Rattle.libos_state.specs.declared.cont.Stage.TheVariants.{SetContext, Resume, CloseEvent, ExitThread, CloseHandles, ExitProcess, ReadBuffer, WriteStream, ReadStream, StoreBytes, AppendLength, FileLength, SetFileLength, AllocatePages, FreePages, ProtectPages, OpenConsole, OpenProgram, ProgramLength, ReadProgram, CloseProgram, CreateProcess, AllocateRun, WriteRun, ProtectRun, AllocateStack, WriteBlock, CreateThread, CreateEvent, StartThread, CloseStream}
 use Rattle.libos_state.specs.declared.cont.Stage.TheVariants as stage
 use Rattle.libos_state.specs.declared.notes.Description.{Description}
 use Rattle.libos_state.specs.declared.state.LibOs.{LibOs}
@@ -71,6 +71,15 @@ handle_of (Some d) = d.handle
 abbrev pub wanted_stream : LibOs → Cont → ℕ
 wanted_stream os c = handle_of (description_behind os (upcall_in c.event).process (argument c 0))
 
+-- Its position.
+abbrev pub position_of : Option Description → ℕ
+position_of None = 0
+position_of (Some d) = d.position
+
+abbrev pub wanted_position : LibOs → Cont → ℕ
+wanted_position os c =
+    position_of (description_behind os (upcall_in c.event).process (argument c 0))
+
 abbrev pub console_name : ℕ → StreamName
 console_name opened = if opened == 0 then ConIn else (if opened == 1 then ConOut else ConErr)
 
@@ -105,7 +114,13 @@ asked os c ExitThread = ThreadExit (upcall_in c.event).thread
 asked os c CloseHandles = Close (handle c 0)
 asked os c ExitProcess = ProcessExit (upcall_in c.event).process (number c 0 % 256)
 asked os c ReadBuffer = MemoryRead (upcall_in c.event).process (argument c 1) (moved (argument c 2))
+asked os c ReadStream =
+    StreamRead (wanted_stream os c) (wanted_position os c) (moved (argument c 2))
+asked os c StoreBytes = MemoryWrite (upcall_in c.event).process (number c 0) c.bytes
+asked os c AppendLength = StreamLength (wanted_stream os c)
 asked os c WriteStream = StreamWrite (wanted_stream os c) (number c 0) c.bytes
+asked os c FileLength = StreamLength (wanted_stream os c)
+asked os c SetFileLength = StreamSetLength (wanted_stream os c) (argument c 1)
 asked os c AllocatePages =
     MemoryAllocate (upcall_in c.event).process (number c 0) (number c 1) (rights_made c)
 asked os c FreePages = MemoryFree (upcall_in c.event).process (number c 0) (number c 1)

@@ -1,5 +1,5 @@
 -- The records of the library OS, and what its machine is: the host's world through these records.
-use Rattle.std.specs.Prelude.{ℕ, ◌==◌, Bool, false, List, [], map, find, filter_map, replicate}
+use Rattle.std.specs.Prelude.{ℕ, ◌==◌, Bool, true, false, List, [], map, find, filter_map, replicate}
 use Rattle.std.specs.Ordering.{nat_cmp}
 use Rattle.std.specs.FinMap.{FinMap, get, empty, from_entries}
 use Rattle.std.specs.Option.{option_map, unwrap_or}
@@ -13,12 +13,13 @@ use Rattle.bas_names.specs.declared.StreamName.{StreamName}
 use Rattle.turn_sched.specs.Lists.{Lists, Waiting}
 use Rattle.abi_calls.specs.declared.object.Object.TheVariants.{Thread, Event}
 use Rattle.abi_calls.specs.Objects.{Object, Objects, Live, running}
+use Rattle.abi_calls.specs.Streams.{stream_of}
 use Rattle.abi_calls.specs.World.{Contents}
 use Rattle.mono_model.specs.Readable.{Readable}
 use Rattle.mono_model.specs.Machine as mono
 use Rattle.mono_model.specs.Machine.{Mono, Waiter, Target, Opened, Exits, Wakes, Gone}
 use Rattle.libos_state.specs.declared.notes.Kind.{Kind}
-use Rattle.libos_state.specs.declared.notes.Kind.TheVariants.{ConIn, ConOut, ConErr}
+use Rattle.libos_state.specs.declared.notes.Kind.TheVariants.{ConIn, ConOut, ConErr, File}
 use Rattle.libos_state.specs.declared.notes.Description.{Description}
 use Rattle.libos_state.specs.declared.notes.DescriptorNote.{DescriptorNote}
 use Rattle.libos_state.specs.declared.notes.ProcessNote.{ProcessNote}
@@ -26,11 +27,28 @@ use Rattle.libos_state.specs.declared.notes.Queued.{Queued}
 use Rattle.libos_state.specs.declared.notes.ThreadNote.{ThreadNote}
 use Rattle.libos_state.specs.declared.state.LibOs.{LibOs}
 
--- The stream of a kind.
-abbrev pub stream_of_kind : Kind → StreamName
-stream_of_kind ConIn = stream.TheVariants.ConIn
-stream_of_kind ConOut = stream.TheVariants.ConOut
-stream_of_kind ConErr = stream.TheVariants.ConErr
+-- The name of a file; of another stream no name.
+abbrev pub name_in : Option StreamName → List ℕ
+name_in (Some (stream.TheVariants.File name)) = name
+name_in (Some stream.TheVariants.ConIn) = []
+name_in (Some stream.TheVariants.ConOut) = []
+name_in (Some stream.TheVariants.ConErr) = []
+name_in None = []
+
+-- The name of the file that an object is open on.
+abbrev pub file_seen : Option Object → List ℕ
+file_seen object = name_in (stream_of object)
+
+-- What a description of a kind is open on: the object of its stream alone has the file's name.
+abbrev pub stream_seen : Kind → Option Object → StreamName
+stream_seen ConIn object = stream.TheVariants.ConIn
+stream_seen ConOut object = stream.TheVariants.ConOut
+stream_seen ConErr object = stream.TheVariants.ConErr
+stream_seen File object = stream.TheVariants.File (file_seen object)
+
+abbrev pub is_file : Kind → Bool
+is_file File = true
+is_file console = false
 
 -- The record of a process, a thread, a description or a descriptor.
 abbrev pub process_named : ℕ → List ProcessNote → Option ProcessNote
@@ -118,9 +136,9 @@ thread_seen live n = record {
   saved = n.saved;
 }
 
-abbrev pub description_seen : Description → mono.Description
-description_seen d = record {
-  stream = stream_of_kind d.kind;
+abbrev pub description_seen : Live → Description → mono.Description
+description_seen live d = record {
+  stream = stream_seen d.kind (get {R = nat_cmp} live d.handle);
   access = d.access;
   append = d.append;
   position = d.position;
@@ -135,8 +153,8 @@ processes_of notes live = from_entries (map (λ n. (n.pid, process_seen live n))
 abbrev pub threads_of : List ThreadNote → Live → FinMap nat_cmp mono.Thread
 threads_of notes live = from_entries (map (λ n. (n.tid, thread_seen live n)) notes)
 
-abbrev pub descriptions_of : List Description → FinMap nat_cmp mono.Description
-descriptions_of notes = from_entries (map (λ d. (d.id, description_seen d)) notes)
+abbrev pub descriptions_of : List Description → Live → FinMap nat_cmp mono.Description
+descriptions_of notes live = from_entries (map (λ d. (d.id, description_seen live d)) notes)
 
 -- The threads of a list of handles that have a record, by their ids.
 abbrev pub tids_of : List ThreadNote → List ℕ → List ℕ
@@ -203,7 +221,7 @@ abbrev pub base : LibOs → Visible → Mono
 base os w = record {
   processes = processes_of os.processes w.objects.live;
   threads = threads_of os.threads w.objects.live;
-  descriptions = descriptions_of os.descriptions;
+  descriptions = descriptions_of os.descriptions w.objects.live;
   lists = lists_of os w.objects.lists;
   queue = map queued_seen os.queue;
   rules = w.rules;

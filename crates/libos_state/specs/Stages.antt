@@ -1,7 +1,7 @@
 -- The stages: which are the last, and the numbers that the format of images has for them.
 use Rattle.std.specs.Prelude.{ℕ, Bool, true, false}
 use Rattle.libos_state.specs.declared.cont.Stage.{Stage}
-use Rattle.libos_state.specs.declared.cont.Stage.TheVariants.{SetContext, Resume, CloseEvent, ExitThread, CloseHandles, ExitProcess, ReadBuffer, WriteStream, AllocatePages, FreePages, ProtectPages, Configure, OpenConsole, OpenProgram, ProgramLength, ReadProgram, CloseProgram, CreateProcess, AllocateRun, WriteRun, ProtectRun, AllocateStack, WriteBlock, CreateThread, CreateEvent, StartThread, CloseStream}
+use Rattle.libos_state.specs.declared.cont.Stage.TheVariants.{SetContext, Resume, CloseEvent, ExitThread, CloseHandles, ExitProcess, ReadBuffer, WriteStream, ReadStream, StoreBytes, AppendLength, FileLength, SetFileLength, AllocatePages, FreePages, ProtectPages, Configure, OpenConsole, OpenProgram, ProgramLength, ReadProgram, CloseProgram, CreateProcess, AllocateRun, WriteRun, ProtectRun, AllocateStack, WriteBlock, CreateThread, CreateEvent, StartThread, CloseStream}
 
 -- The thread gets its registers, or becomes ready: what each service of a system call that goes on
 -- does last.
@@ -18,8 +18,13 @@ number_of CloseEvent = 6
 number_of ExitThread = 7
 number_of CloseHandles = 8
 number_of ExitProcess = 9
+number_of ReadStream = 18
+number_of StoreBytes = 19
 number_of ReadBuffer = 20
+number_of AppendLength = 21
 number_of WriteStream = 22
+number_of FileLength = 23
+number_of SetFileLength = 24
 number_of AllocatePages = 30
 number_of FreePages = 31
 number_of ProtectPages = 32

@@ -6,7 +6,8 @@ use Rattle.abi_calls.specs.declared.threads.Turned.{Turned}
 use Rattle.abi_calls.specs.declared.threads.Turned.TheVariants.{Ran, Idle, Stuck, Exception}
 use Rattle.abi_calls.specs.declared.threads.Upcall.{Upcall}
 use Rattle.abi_calls.specs.Objects.{Objects, object_at, is_thread_of}
-use Rattle.mono_model.specs.Calls.{silently, served}
+use Rattle.mono_model.specs.Calls.{silently}
+use Rattle.mono_model.specs.SystemCalls.{served}
 use Rattle.mono_model.specs.Turns.{is_stuck, turn_of}
 use Rattle.libos_state.specs.declared.state.LibOs.{LibOs}
 use Rattle.libos_state.specs.Records.{Visible, with_visible, base, process_named}

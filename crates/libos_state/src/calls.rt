@@ -1,13 +1,15 @@
 ghost use Rattle.std.specs.Prelude.{◌≡◌, false, IfOk};
 ghost use Rattle.abi_calls.specs.declared.call.Call.TheVariants.{Close};
 ghost use Rattle.libos_state.specs.Pending as spec;
-ghost use Rattle.libos_state.specs.Records.{description_behind};
 ghost use Rattle.libos_state.specs.Kept.{IsKept, KeptAt};
 ghost use Rattle.libos_state.specs.declared.state.LibOs.{LibOs};
 ghost use Rattle.libos_state.specs.Stages.{is_at_end};
 
 use crate::cont::{Cont, Stage};
-use crate::kept::{A0, description_of, number_at, thread_of, upcall_of};
+use crate::file_calls::{
+    file_length, read_buffer, read_stream, set_file_length, store_bytes, write_stream,
+};
+use crate::kept::{number_at, thread_of, upcall_of};
 use crate::page_calls::{allocate_pages, free_pages, protect_pages};
 use crate::start_calls::{
     allocate_run, allocate_stack, close_program, configure, create_thread, open_console,
@@ -17,18 +19,6 @@ use crate::state::LibOs;
 use abi_calls::Call;
 use bas_edge::Memory;
 use std::alloc::Global;
-
-/// The most bytes that one call moves.
-pub const PIECE: u64 = 65_536;
-
-fn stream_handle(os: &LibOs, process: u64, fd: u64) -> u64
-    ensures { result ≡ spec.handle_of (description_behind os.now process fd) }
-{
-    match description_of(os, process, fd) {
-        Some(description) => description.handle,
-        None => 0,
-    }
-}
 
 fn set_context(cont: &Cont) -> Call
     requires { cont.now.stage ≡ Stage.SetContext }
@@ -76,30 +66,6 @@ fn exit_process(cont: &Cont) -> Call
     }
 }
 
-fn read_buffer(cont: &Cont) -> Call
-    requires { cont.now.stage ≡ Stage.ReadBuffer }
-    ensures { (os : LibOs) → result ≡ spec.asked os cont.now cont.now.stage }
-{
-    let upcall = upcall_of(&cont.event);
-    let registers = upcall.context.x;
-    Call::MemoryRead {
-        process: upcall.process,
-        address: registers[A0 + 1],
-        count: registers[A0 + 2].min(PIECE),
-    }
-}
-
-fn write_stream(os: &LibOs, cont: &Cont) -> Result<Call, Memory>
-    ensures { IfOk result (λ call. call ≡ spec.asked os.now cont.now Stage.WriteStream) }
-{
-    let upcall = upcall_of(&cont.event);
-    Ok(Call::StreamWrite {
-        stream: stream_handle(os, upcall.process, upcall.context.x[A0]),
-        offset: number_at(cont.numbers.as_slice(), 0),
-        bytes: cont.bytes.clone()?,
-    })
-}
-
 /// The call of a stage before the thread gets registers.
 fn asked_before(os: &LibOs, alloc: Global, cont: &Cont) -> Result<Call, Memory>
     requires before { is_at_end cont.now.stage ≡ false }
@@ -111,8 +77,12 @@ fn asked_before(os: &LibOs, alloc: Global, cont: &Cont) -> Result<Call, Memory>
         Stage::CloseStream | Stage::CloseEvent | Stage::CloseHandles => Ok(close_first(cont)),
         Stage::ExitThread => Ok(exit_thread(cont)),
         Stage::ExitProcess => Ok(exit_process(cont)),
+        Stage::ReadStream => Ok(read_stream(os, cont)),
+        Stage::StoreBytes => store_bytes(cont),
         Stage::ReadBuffer => Ok(read_buffer(cont)),
+        Stage::AppendLength | Stage::FileLength => Ok(file_length(os, cont)),
         Stage::WriteStream => write_stream(os, cont),
+        Stage::SetFileLength => Ok(set_file_length(os, cont)),
         Stage::AllocatePages => Ok(allocate_pages(cont)),
         Stage::FreePages => Ok(free_pages(cont)),
         Stage::ProtectPages => Ok(protect_pages(cont)),

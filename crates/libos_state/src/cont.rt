@@ -31,10 +31,20 @@ pub enum Stage {
     CloseHandles,
     /// The process ends.
     ExitProcess,
+    /// The bytes are read from the stream.
+    ReadStream,
+    /// The bytes are written to the caller's memory.
+    StoreBytes,
     /// The bytes to be written are read from the caller's memory.
     ReadBuffer,
+    /// The length of the file is asked for, at whose end the bytes are written.
+    AppendLength,
     /// The bytes are written to the stream.
     WriteStream,
+    /// The length of the file is asked for, from whose end a position is sought or which is its status.
+    FileLength,
+    /// The file gets another length.
+    SetFileLength,
     /// Pages of the caller's process are made.
     AllocatePages,
     /// Pages of the caller's process go.
@@ -89,7 +99,7 @@ pub struct Cont {
     pub handles: Items<u64>,
     /// Handles of other processes, to be closed behind the one that ends. No stage keeps any yet.
     pub later: Items<u64>,
-    /// An exit code, an offset, a length, a page and a count of pages, the number of a run, or that and how far it is
-    /// written.
+    /// An exit code, an offset, an address and a result, a length, a page and a count of pages, the number of a run, or
+    /// that and how far it is written.
     pub numbers: Items<u64>,
 }

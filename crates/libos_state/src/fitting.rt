@@ -180,13 +180,14 @@ fn are_all_described(os: &LibOs) -> bool
         .all(|note| is_described(os, note.id))
 }
 
-/// Whether console input is open to be read, and its output and errors to be written.
+/// Whether console input is open to be read, its output and errors to be written, and a file for either or both.
 fn is_fit_access(kind: Kind, access: u8) -> bool
     ensures { result ≡ spec.is_fit_access kind access }
 {
     match kind {
         Kind::ConIn => access == READ,
         Kind::ConOut | Kind::ConErr => access == WRITE,
+        Kind::File => READ <= access && access <= READ | WRITE,
     }
 }
 
@@ -205,6 +206,7 @@ fn is_fit_append(kind: Kind, append: bool) -> bool
 {
     match kind {
         Kind::ConIn | Kind::ConOut | Kind::ConErr => !append,
+        Kind::File => true,
     }
 }
 

@@ -5,6 +5,7 @@
 mod begun;
 mod calls;
 mod cont;
+mod file_calls;
 mod fitting;
 mod kept;
 mod laws;
@@ -15,8 +16,8 @@ mod state;
 mod step;
 
 pub use begun::process_by_pid;
-pub use calls::PIECE;
 pub use cont::{Cont, Event, Stage};
+pub use file_calls::PIECE;
 pub use kept::{
     A0, description_by_id, description_of, descriptor_by_number, first_items, has_open, items_from,
     number_at, process_by_handle, thread_by_handle, thread_by_tid, upcall_of,

@@ -10,6 +10,8 @@ pub enum Kind {
     ConOut,
     /// The console's errors.
     ConErr,
+    /// A file.
+    File,
 }
 
 /// An open description.

@@ -9,8 +9,8 @@ ghost use Rattle.libos_state.specs.Fits.{KeepsRun, KeepsPlace};
 ghost use Rattle.libos_state.specs.Kept.{KeptAt};
 ghost use Rattle.libos_state.specs.declared.cont.Cont.{Cont};
 
-use crate::calls::PIECE;
 use crate::cont::{Cont, Stage};
+use crate::file_calls::PIECE;
 use crate::kept::number_at;
 use crate::page_calls::READ_WRITE;
 use crate::state::LibOs;

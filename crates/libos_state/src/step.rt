@@ -10,6 +10,9 @@ pub enum Step {
     Asks(Cont),
     /// The system call of this service gives the break of its process, as the records then have it.
     GivesBreak(Cont),
+    /// It keeps the bytes that a write has read, which go to the stream of its descriptor: where that appends, the
+    /// length of the file is asked for first.
+    Sends(Cont),
     /// It ends.
     Ends,
     /// It ends, and with it the start of the run, which has come so far.
@@ -31,6 +34,18 @@ pub enum Change {
         process: u64,
         old: u64,
         new: u64,
+    },
+    /// The position of the file that a descriptor of the process is open on, if it is open on one.
+    PutsPosition {
+        process: u64,
+        fd: u64,
+        position: u64,
+    },
+    /// It moves over so many bytes.
+    MovesPosition {
+        process: u64,
+        fd: u64,
+        count: u64,
     },
     /// The break of the process that has this handle.
     MovesBreak {

@@ -1,6 +1,6 @@
 -- The definitions computed on worked examples.
 use Rattle.std.specs.FinMap.{get, len, FinMap, insert, empty, entries, entries-insert, len-entries, len-empty}
-use Rattle.std.proofs.Common.{◌≡◌, ℕ, ◌+◌, ◌*◌, ◌≤◌, ◌<◌, Bool, true, false, not, ◌&&◌, if◌then◌else◌, nat_lt, is_some, List, [], ◌∷◌, refl, sym, ap, ◌∙◌, arith, take, replicate, ◌++◌, ◌%◌, ◌==◌, length}
+use Rattle.std.proofs.Common.{◌≡◌, ℕ, ◌+◌, ◌*◌, ◌≤◌, ◌<◌, Bool, true, false, not, ◌&&◌, if◌then◌else◌, nat_lt, is_some, List, [], ◌∷◌, refl, sym, ap, ◌∙◌, arith, take, replicate, ◌++◌, length}
 use Rattle.std.specs.List.{list_any}
 use Rattle.std.specs.Ordering.{nat_cmp}
 use Rattle.std.specs.Cmp.{nat_cmp_total}
@@ -13,8 +13,9 @@ use Rattle.guest_space.specs.Run.{first_missing, if_missing}
 use Rattle.guest_space.proofs.FirstSome.{first_some-here}
 use Rattle.bas_names.specs.declared.StreamName.TheVariants.{ConOut, ConIn}
 use Rattle.bas_items.proofs.NumberMaps.{get-insert-same}
-use Rattle.mono_model.specs.Machine.{Mono, returned, register, Process, process_at, with_process, with_break_in, Thread, Waiter, Exits, Wakes, Gone}
-use Rattle.mono_model.specs.Calls.{Caller, error, EBADF, EINVAL, ENOMEM, writable, moved, fault_code, finished, finished_with, memory_at, memory_in, munmap, munmap_known, mprotect_known, mmap, mmap_known, map_pages, break_in, break_given, break_moved_with, break_asked, brk, brk_by, is_exit, parent_in, known_result, is_other_thread, has_other_thread, waiter_without, without_thread, ended, exit}
+use Rattle.mono_model.specs.Machine.{Mono, returned, register, Process, process_at, with_process, with_break_in, Thread, Exits, Wakes, Gone}
+use Rattle.mono_model.specs.Calls.{Caller, error, EBADF, EINVAL, ENOMEM, writable, moved, finished, finished_with, memory_at, memory_in, munmap, munmap_known, mprotect_known, mmap, mmap_known, map_pages, break_in, break_given, break_moved_with, break_asked, brk, brk_by, is_exit, parent_in, known_result, is_other_thread, has_other_thread, without_thread, ended, exit}
+use Rattle.mono_model.specs.SystemCalls.{fault_code}
 use Rattle.mono_model.specs.Mapping.{HasNoPages, is_free, is_whole, lowest_free, pages_for}
 use Rattle.mono_model.specs.Breaks.{break_move}
 use Rattle.mono_model.specs.declared.breaks.BreakMove.{BreakMove}
@@ -50,7 +51,8 @@ result : register (returned (record { pc = 0x10090; x = replicate 31 0 }) 3) 10 
 result = refl
 
 -- what can be written, and how much at once
-output_written : writable (Some (record { stream = ConOut; access = 2; append = false; position = 0 })) ≡ Some ConOut
+output_written : writable (Some (record { stream = ConOut; access = 2; append = false; position = 0 }))
+    ≡ Some (record { stream = ConOut; access = 2; append = false; position = 0 })
 output_written = refl
 
 input_refused : writable (Some (record { stream = ConIn; access = 1; append = false; position = 0 })) ≡ None

@@ -1,12 +1,11 @@
 -- The definitions on descriptors computed on worked examples.
 use Rattle.std.specs.Ordering.{nat_cmp}
 use Rattle.std.specs.FinMap.{FinMap, get, insert, remove, empty}
-use Rattle.std.proofs.Common.{◌≡◌, ℕ, zero, suc, ◌+◌, ◌<◌, ◌≤◌, Bool, true, false, cond, List, [], ◌∷◌, ◌++◌, refl, sym, ap, ◌∙◌, arith, replicate, is_some}
-use Rattle.std.specs.declared.option.Option.{Option}
+use Rattle.std.proofs.Common.{◌≡◌, ℕ, zero, suc, ◌<◌, ◌≤◌, cond, ◌∷◌, ◌++◌, refl, ap, ◌∙◌, arith, replicate, is_some}
 use Rattle.std.specs.declared.option.Option.TheVariants.{None, Some}
 use Rattle.rv_core.specs.declared.context.Context.{Context}
 use Rattle.guest_space.proofs.FirstSome.{first_some-at}
-use Rattle.bas_items.proofs.NumberMaps.{get-empty, get-insert, get-insert-same, get-insert-other, get-remove}
+use Rattle.bas_items.proofs.NumberMaps.{get-empty, get-insert-same, get-insert-other, get-remove}
 use Rattle.mono_model.specs.Machine.{Mono, Process, Opened, Gone, process_at, register}
 use Rattle.mono_model.specs.Descriptors.{descriptors_in, descriptors_at, with_descriptors_in, named_by, without_descriptor, least_free, if_free_descriptor, target_without}
 use Rattle.mono_model.specs.Calls.{Caller, error, EINVAL, finished, close_open, close, dup3_known}

@@ -10,11 +10,12 @@ use Rattle.std.specs.declared.option.Option.TheVariants.{None, Some}
 use Rattle.rv_core.specs.declared.context.Context.{Context}
 use Rattle.guest_space.specs.Space.{Space, memory_of, bytes_from, with_run, without_run, protected}
 use Rattle.guest_space.specs.Access.{AccessFault, first_fault}
+use Rattle.bas_edge.specs.Files.{file_bytes, with_bytes_at}
 use Rattle.bas_names.specs.declared.StreamName.{StreamName}
 use Rattle.bas_names.specs.declared.StreamName.TheVariants.{File, ConIn, ConOut, ConErr}
 use Rattle.turn_sched.specs.Lists.{contains, without}
 use Rattle.mono_model.specs.Machine.{Mono, Process, Description, Target, Opened, Exits, Wakes, Gone, Waiter, exited, returned, register, resumed, process_at, with_memory_in, with_break_in, is_thread_in, Thread}
-use Rattle.mono_model.specs.Descriptors.{DESCRIPTORS, named_by, descriptors_at, least_free, with_descriptor, with_closed}
+use Rattle.mono_model.specs.Descriptors.{DESCRIPTORS, named_by, descriptors_at, least_free, with_descriptor, with_closed, with_position}
 use Rattle.mono_model.specs.Mapping.{MOST_PAGES, FIRST_MAPPED, is_page_start, pages_for, is_whole, lowest_free}
 use Rattle.mono_model.specs.Breaks.{can_be_made, break_move}
 use Rattle.mono_model.specs.declared.breaks.BreakMove.{BreakMove}
@@ -80,6 +81,9 @@ EINVAL = 22
 abbrev pub EMFILE : ℕ
 EMFILE = 24
 
+abbrev pub EFBIG : ℕ
+EFBIG = 27
+
 abbrev pub ENOSYS : ℕ
 ENOSYS = 38
 
@@ -121,10 +125,10 @@ described_in m fd (Some process) = described_by m (get {R = nat_cmp} process.des
 abbrev pub description_of : Mono → ℕ → ℕ → Option Description
 description_of m p fd = described_in m fd (process_at m p)
 
--- The stream of a description that can be written.
-abbrev pub writable : Option Description → Option StreamName
+-- A description that can be written.
+abbrev pub writable : Option Description → Option Description
 writable None = None
-writable (Some d) = if bit_and d.access 2 == 2 then Some d.stream else None
+writable (Some d) = if bit_and d.access 2 == 2 then Some d else None
 
 abbrev pub memory_in : Option Process → Space
 memory_in None = empty
@@ -134,35 +138,75 @@ memory_in (Some process) = process.memory
 abbrev pub memory_at : Mono → ℕ → Space
 memory_at m p = memory_in (process_at m p)
 
+-- No call writes or lengthens a file past 16 MiB.
+abbrev pub LONGEST_FILE : ℕ
+LONGEST_FILE = 2 ^ 24
+
 -- How many bytes one call moves at most.
 abbrev pub moved : ℕ → ℕ
 moved count = min count 65536
 
--- Bytes that go to a stream of the console; its input takes none, and files aren't written yet.
+-- Bytes that go to a stream of the console; its input takes none, and what goes to a file isn't
+-- written to the console.
 abbrev pub sent : StreamName → List ℕ → Written
 sent ConOut bytes = record { output = bytes; errors = [] }
 sent ConErr bytes = record { output = []; errors = bytes }
 sent ConIn bytes = nothing
 sent (File name) bytes = nothing
 
-abbrev pub write_bytes : Mono → Caller → StreamName → List ℕ → Served
-write_bytes m who stream bytes = (finished m who (length bytes), sent stream bytes)
+-- Where a position stands that moves over so many bytes: at 2^64 - 1 at most.
+abbrev pub advanced : ℕ → ℕ → ℕ
+advanced position count = min (position + count) (2 ^ 64 - 1)
 
-abbrev pub write_unless : Mono → Caller → StreamName → List ℕ → Option AccessFault → Served
-write_unless m who stream bytes None = write_bytes m who stream bytes
-write_unless m who stream bytes (Some fault) = silently (finished m who (error EFAULT))
+abbrev pub positioned_by : Mono → ℕ → Option ℕ → Mono
+positioned_by m position None = m
+positioned_by m position (Some id) = with_position m id position
+
+-- The description that the caller's a0 names is at a position.
+abbrev pub positioned : Mono → Caller → ℕ → Mono
+positioned m who position =
+    positioned_by m position (named_by m who.process (register who.context 10))
+
+-- The file has the bytes from an offset on, and the position stands behind them; EFBIG where it
+-- would become too long.
+abbrev pub write_file : Mono → Caller → List ℕ → ℕ → List ℕ → Mono
+write_file m who name offset bytes =
+    let written = record m { files = with_bytes_at name offset bytes m.files } in
+    if nat_lt LONGEST_FILE (offset + length bytes) then finished m who (error EFBIG)
+    else finished (positioned written who (advanced offset (length bytes))) who (length bytes)
+
+-- The bytes go to a stream, into a file from an offset on.
+abbrev pub write_at : Mono → Caller → ℕ → List ℕ → StreamName → Served
+write_at m who offset bytes (File name) = silently (write_file m who name offset bytes)
+write_at m who offset bytes console = (finished m who (length bytes), sent console bytes)
+
+-- The bytes of the file that a stream is; of the console none.
+abbrev pub bytes_of : Mono → StreamName → List ℕ
+bytes_of m (File name) = file_bytes m.files name
+bytes_of m console = []
+
+-- Where a write begins: a description that appends writes at the end of its file.
+abbrev pub write_offset : Mono → Description → ℕ
+write_offset m d = if d.append then length (bytes_of m d.stream) else d.position
+
+abbrev pub write_bytes : Mono → Caller → Description → List ℕ → Served
+write_bytes m who d bytes = write_at m who (write_offset m d) bytes d.stream
+
+abbrev pub write_unless : Mono → Caller → Description → List ℕ → Option AccessFault → Served
+write_unless m who d bytes None = write_bytes m who d bytes
+write_unless m who d bytes (Some fault) = silently (finished m who (error EFAULT))
 
 -- The bytes are read from the caller's memory: EFAULT where one isn't there or can't be read.
-abbrev pub write_from : Mono → Caller → StreamName → ℕ → ℕ → Served
-write_from m who stream address count =
+abbrev pub write_from : Mono → Caller → Description → ℕ → ℕ → Served
+write_from m who d address count =
     let memory = memory_of (memory_at m who.process) in
-    write_unless m who stream (bytes_from memory address count) (first_fault memory 1 address count)
+    write_unless m who d (bytes_from memory address count) (first_fault memory 1 address count)
 
-abbrev pub write_to : Mono → Caller → Option StreamName → Served
+abbrev pub write_to : Mono → Caller → Option Description → Served
 write_to m who None = silently (finished m who (error EBADF))
-write_to m who (Some stream) =
+write_to m who (Some d) =
     if register who.context 12 == 0 then silently (finished m who 0)
-    else write_from m who stream (register who.context 11) (moved (register who.context 12))
+    else write_from m who d (register who.context 11) (moved (register who.context 12))
 
 -- write(fd, buf, n): EBADF where fd isn't open for writing. n is cut to 65,536, and 0 writes
 -- nothing.
@@ -432,41 +476,3 @@ known_result m who number =
     else (if number == GETPPID then parent_in (process_at m who.process)
     else (if number == GETTID then who.thread
     else error ENOSYS)))
-
--- The calls on a process's pages, and those whose result is known.
-abbrev pub memory_call : Mono → Caller → ℕ → Mono
-memory_call m who number =
-    if number == BRK then brk m who
-    else (if number == MUNMAP then munmap m who
-    else (if number == MMAP then mmap m who
-    else (if number == MPROTECT then mprotect m who
-    else finished m who (known_result m who number))))
-
--- The calls on a process's descriptors, and all that change neither files nor processes.
-abbrev pub descriptor_call : Mono → Caller → ℕ → Mono
-descriptor_call m who number =
-    if number == CLOSE then close m who
-    else (if number == DUP then dup m who
-    else (if number == DUP3 then dup3 m who
-    else memory_call m who number))
-
-abbrev pub system_call : Mono → Caller → ℕ → Served
-system_call m who number =
-    if number == WRITE then write m who
-    else (if is_exit number then silently (exit m who number)
-    else silently (descriptor_call m who number))
-
--- The exit code of a process that a fault ends, by the cause: 132 an illegal instruction, 133 a
--- breakpoint, 135 a misaligned instruction address, 139 an access.
-abbrev pub fault_code : ℕ → ℕ
-fault_code cause =
-    if cause == 2 then 132
-    else (if cause == 3 then 133
-    else (if cause == 0 then 135
-    else 139))
-
--- What a trap does: cause 8 is a system call, every other a fault.
-abbrev pub served : Mono → Caller → Trap → Served
-served m who trap =
-    if trap.0 == 8 then system_call m who (register who.context 17)
-    else silently (ended m who.process (fault_code trap.0))

@@ -8,7 +8,7 @@ use Rattle.std.specs.declared.option.Option.{Option}
 use Rattle.std.specs.declared.option.Option.TheVariants.{None, Some}
 use Rattle.guest_space.specs.First.{first_some}
 use Rattle.turn_sched.specs.Lists.{contains}
-use Rattle.mono_model.specs.Machine.{Mono, Process, Target, Opened, Exits, Wakes, Gone, Waiter, process_at, with_process}
+use Rattle.mono_model.specs.Machine.{Mono, Process, Description, Target, Opened, Exits, Wakes, Gone, Waiter, process_at, with_process}
 
 -- A process has the descriptors below this one at most.
 abbrev pub DESCRIPTORS : ℕ
@@ -79,3 +79,14 @@ closed_if m p fd (Some id) = ends_unnamed (without_descriptor m p fd) id
 -- of whatever process.
 abbrev pub with_closed : Mono → ℕ → ℕ → Mono
 with_closed m p fd = closed_if m p fd (named_by m p fd)
+
+abbrev pub with_position_in : Mono → ℕ → ℕ → Option Description → Mono
+with_position_in m id position None = m
+with_position_in m id position (Some d) = record m {
+  descriptions = insert m.descriptions id (record d { position = position });
+}
+
+-- An open description is at a position.
+abbrev pub with_position : Mono → ℕ → ℕ → Mono
+with_position m id position =
+    with_position_in m id position (get {R = nat_cmp} m.descriptions id)

@@ -5,5 +5,7 @@ pub mod Mapping
 pub mod Breaks
 pub mod Descriptors
 pub mod Calls
+pub mod FileCalls
+pub mod SystemCalls
 pub mod Turns
 pub mod Starting

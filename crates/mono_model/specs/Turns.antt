@@ -9,7 +9,8 @@ use Rattle.turn_sched.specs.Lists.{with_woken, picked_place, picked_by, without_
 use Rattle.turn_sched.specs.Clock.{after_idle, after_pick, time_at, is_past, pick_word_at}
 use Rattle.mono_model.specs.Machine.{Mono, Thread, Target, Opened, Exits, Wakes, Gone, Waiter, process_at, thread_at, with_memory_in, with_context, made_ready, exit_code, is_woken}
 use Rattle.mono_model.specs.Written.{Written, nothing, and_then}
-use Rattle.mono_model.specs.Calls.{Trap, Served, silently, memory_at, served}
+use Rattle.mono_model.specs.Calls.{Trap, Served, silently, memory_at}
+use Rattle.mono_model.specs.SystemCalls.{served}
 
 -- A target has come: a process has exited, a thread was woken, or what was waited for has gone. No
 -- open description can be waited for yet.

@@ -1,5 +1,5 @@
 -- From one moment of a service to a later one.
-use Rattle.std.proofs.Common.{◌≡◌, ◌≢◌, ◌⊎◌, inl, inr, ℕ, List, [], ◌++◌, refl, sym, ap, subst, ◌∙◌, append_assoc}
+use Rattle.std.proofs.Common.{◌≡◌, ◌≢◌, ◌⊎◌, inl, inr, ℕ, Bool, true, false, if◌then◌else◌, List, [], ◌++◌, refl, sym, ap, subst, ◌∙◌, append_assoc}
 use Rattle.std.specs.declared.option.Option.TheVariants.{Some, None}
 use Rattle.bas_edge.specs.Files.{Files}
 use Rattle.abi_calls.specs.declared.call.Call.{Call}
@@ -7,6 +7,7 @@ use Rattle.abi_calls.specs.declared.reply.Reply.{Reply}
 use Rattle.abi_calls.specs.World.{Told, Tells}
 use Rattle.abi_calls.specs.Abi.{Answers}
 use Rattle.abi_calls.specs.Sound.{IsSound}
+use Rattle.mono_model.specs.Calls.{advanced}
 use Rattle.mono_model.specs.Readable.{Readable}
 use Rattle.mono_model.specs.Written.{nothing, and_then}
 use Rattle.mono_model.specs.Starting.{Started, Runs, NoProgram, BadProgram}
@@ -14,14 +15,14 @@ use Rattle.mono_model.proofs.RunLaws.{and_then-assoc}
 use Rattle.libos_state.specs.declared.state.LibOs.{LibOs}
 use Rattle.libos_state.specs.declared.state.Boot.TheVariants.{Going}
 use Rattle.libos_state.specs.declared.step.Step.{Step}
-use Rattle.libos_state.specs.declared.step.Step.TheVariants.{Asks, GivesBreak, Ends, Stops}
+use Rattle.libos_state.specs.declared.step.Step.TheVariants.{Asks, GivesBreak, Sends, Ends, Stops}
 use Rattle.libos_state.specs.declared.step.Change.{Change}
-use Rattle.libos_state.specs.declared.step.Change.TheVariants.{Same, MovesBreak, Begins, Closes, Replaces}
+use Rattle.libos_state.specs.declared.step.Change.TheVariants.{Same, PutsPosition, MovesPosition, MovesBreak, Begins, Closes, Replaces}
 use Rattle.libos_state.specs.declared.cont.Cont.{Cont}
 use Rattle.std.specs.declared.option.Option.{Option}
-use Rattle.libos_state.specs.Records.{over_host, description_with, description_behind, pid_with}
+use Rattle.libos_state.specs.Records.{over_host, description_with, description_behind, is_file, pid_with}
 use Rattle.libos_state.specs.declared.notes.Description.{Description}
-use Rattle.libos_state.specs.Descriptors.{without_stream}
+use Rattle.libos_state.specs.Descriptors.{without_stream, with_position, positioned, moved_over}
 use Rattle.libos_state.proofs.StreamClosing.{SameProcesses-without_description}
 use Rattle.libos_state.specs.Pending.{pending, asked_by}
 use Rattle.libos_state.specs.Answered.{duplicated, answered, answered_in, with_step, with_change, change, next}
@@ -148,18 +149,33 @@ duplicated-boot os p fd (Some d) = refl
 gone-boot : (os : LibOs) (handle : ℕ) → (without_stream os handle).boot ≡ os.boot
 gone-boot os handle = (SameProcesses-without_description os (description_with handle os.descriptions)).boot
 
+positioned-boot : (os : LibOs) (position : ℕ) (x : Option Description) → (positioned os position x).boot ≡ os.boot
+positioned-boot os position None = refl
+positioned-boot os position (Some d) = by_kind (is_file d.kind)
+  where
+    by_kind : (file : Bool) → (if file then with_position os d.id position else os).boot ≡ os.boot
+    by_kind true = refl
+    by_kind false = refl
+
+moved-boot : (os : LibOs) (count : ℕ) (x : Option Description) → (moved_over os count x).boot ≡ os.boot
+moved-boot os count None = refl
+moved-boot os count (Some d) = positioned-boot os (advanced d.position count) (Some d)
+
 with_change-boot : (os : LibOs) (change : Change) → (with_change os change).boot ≡ os.boot
 with_change-boot os Same = refl
 with_change-boot os (Closes handle) = gone-boot os handle
 with_change-boot os (Replaces handle process old new) =
     let left = without_stream os handle in
     duplicated-boot left (pid_with left process) new (description_behind left process old) ∙ gone-boot os handle
+with_change-boot os (PutsPosition process fd position) = positioned-boot os position (description_behind os process fd)
+with_change-boot os (MovesPosition process fd count) = moved-boot os count (description_behind os process fd)
 with_change-boot os (MovesBreak process address) = refl
 with_change-boot os (Begins process thread descriptions) = refl
 
 with_step-boot : (os : LibOs) (step : Step) → (with_step os step).cont ≢ None → (with_step os step).boot ≡ os.boot
 with_step-boot os (Asks c) some = refl
 with_step-boot os (GivesBreak c) some = refl
+with_step-boot os (Sends c) some = refl
 with_step-boot os Ends some = absurd (some refl)
 with_step-boot os (Stops boot) some = absurd (some refl)
 

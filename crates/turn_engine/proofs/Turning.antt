@@ -1,5 +1,5 @@
 -- A turn of the machine over a host.
-use Rattle.std.proofs.Common.{◌≡◌, ◌≢◌, nat_lt, ℕ, List, [], ◌%◌, ◌==◌, ◌&&◌, Bool, bit_and, if◌then◌else◌, true, false, append-nil, refl, sym, ap, subst, ◌∙◌}
+use Rattle.std.proofs.Common.{◌≡◌, ◌≢◌, nat_lt, ℕ, List, [], ◌%◌, ◌^◌, ◌==◌, ◌&&◌, Bool, bit_and, if◌then◌else◌, true, false, append-nil, refl, sym, ap, subst, ◌∙◌}
 use Rattle.std.specs.FinMap.{empty}
 use Rattle.std.specs.declared.option.Option.{Option}
 use Rattle.std.specs.declared.option.Option.TheVariants.{None, Some}
@@ -20,20 +20,22 @@ use Rattle.mono_model.specs.Descriptors.{DESCRIPTORS}
 use Rattle.mono_model.specs.Written.{nothing, and_then}
 use Rattle.mono_model.specs.declared.breaks.BreakMove.{BreakMove}
 use Rattle.mono_model.specs.declared.breaks.BreakMove.TheVariants.{Grows, Shrinks, Within, Stays}
-use Rattle.mono_model.specs.Calls.{Served, WRITE, CLOSE, DUP, DUP3, dup3_known, BRK, MUNMAP, MMAP, MPROTECT, EBADF, ENOSYS, error, munmap_known, mmap_known, mprotect_known, fault_code, is_exit, EXIT}
+use Rattle.mono_model.specs.Calls.{Served, WRITE, CLOSE, DUP, DUP3, dup3_known, BRK, MUNMAP, MMAP, MPROTECT, EBADF, EINVAL, ENOSYS, error, munmap_known, mmap_known, mprotect_known, is_exit, EXIT}
+use Rattle.mono_model.specs.SystemCalls.{fault_code}
+use Rattle.mono_model.specs.FileCalls.{READ, LSEEK, FSTAT, FTRUNCATE, ESPIPE, sought}
 use Rattle.mono_model.specs.Turns.{is_stuck, turn_of}
 use Rattle.mono_model.specs.Starting.{Runs}
 use Rattle.libos_state.specs.declared.cont.Stage.{Stage}
-use Rattle.libos_state.specs.declared.cont.Stage.TheVariants.{AllocatePages, FreePages, ProtectPages}
+use Rattle.libos_state.specs.declared.cont.Stage.TheVariants.{FileLength, SetFileLength, AllocatePages, FreePages, ProtectPages}
 use Rattle.libos_state.specs.declared.state.LibOs.{LibOs}
 use Rattle.libos_state.specs.declared.notes.Description.{Description}
 use Rattle.libos_state.specs.declared.state.Boot.{Boot}
 use Rattle.libos_state.specs.declared.state.Boot.TheVariants.{Up}
-use Rattle.libos_state.specs.Records.{description_behind, pid_with, process_with}
+use Rattle.libos_state.specs.Records.{description_behind, is_file, pid_with, process_with}
 use Rattle.libos_state.specs.Descriptors.{with_descriptor, without_descriptor}
 use Rattle.libos_state.specs.Answered.{goes_on}
 use Rattle.libos_state.specs.Breaks.{break_goes}
-use Rattle.libos_state.specs.Entered.{entered, call_entered, write_entered, on_pages, munmap_entered, mmap_entered, mprotect_entered, brk_by, brk_entered, memory_entered, ends_process, result_of, known_result, exit_entered, has_other_thread, ends_thread, entered_with, service_with_stream, is_last, close_entered, dup_to, dup_entered, dup3_over, dup3_open, dup3_unless, descriptor_entered, least_free, descriptors_in}
+use Rattle.libos_state.specs.Entered.{entered, call_entered, file_entered, read_entered, write_entered, lseek_entered, seek_by, seek_to, fstat_entered, ftruncate_entered, stage_of, on_pages, munmap_entered, mmap_entered, mprotect_entered, brk_by, brk_entered, memory_entered, ends_process, result_of, known_result, exit_entered, has_other_thread, ends_thread, entered_with, service_with_stream, is_last, close_entered, dup_to, dup_entered, dup3_over, dup3_open, dup3_unless, descriptor_entered, least_free, descriptors_in}
 use Rattle.libos_state.specs.Fits.{Fits, FitsUp, FitsBoot, FitsCont}
 use Rattle.libos_state.specs.Laws.{EntersTurn}
 use Rattle.libos_state.specs.Meaning.{Meaning, meant, meant_settled, leads_to}
@@ -128,6 +130,37 @@ entered-boot-write os u (Some d) =
     boot_if (bit_and d.access 2 == 2) _ (result_of os u (error EBADF)) os.boot
     (boot_if (register u.context 12 == 0) (result_of os u 0) _ os.boot refl refl) refl
 
+entered-boot-read : (os : LibOs) (u : Upcall) (d : Option Description) → (read_entered os u d).boot ≡ os.boot
+entered-boot-read os u None = refl
+entered-boot-read os u (Some d) =
+    boot_if (bit_and d.access 1 == 1) _ (result_of os u (error EBADF)) os.boot
+    (boot_if (register u.context 12 == 0) (result_of os u 0) _ os.boot refl refl) refl
+
+entered-boot-seek_to : (os : LibOs) (u : Upcall) (id : ℕ) (at : Option ℕ) → (seek_to os u id at).boot ≡ os.boot
+entered-boot-seek_to os u id None = refl
+entered-boot-seek_to os u id (Some at) = refl
+
+entered-boot-seek : (os : LibOs) (u : Upcall) (d : Description) (whence : ℕ) → (seek_by os u d whence).boot ≡ os.boot
+entered-boot-seek os u d whence =
+    boot_if (nat_lt 2 whence) (result_of os u (error EINVAL)) _ os.boot refl
+    (boot_if (whence == 2) (stage_of os u FileLength) _ os.boot refl
+    (entered-boot-seek_to os u d.id (sought (if whence == 0 then 0 else d.position) (register u.context 11))))
+
+entered-boot-lseek : (os : LibOs) (u : Upcall) (d : Option Description) → (lseek_entered os u d).boot ≡ os.boot
+entered-boot-lseek os u None = refl
+entered-boot-lseek os u (Some d) =
+    boot_if (is_file d.kind) (seek_by os u d (register u.context 12)) (result_of os u (error ESPIPE)) os.boot (entered-boot-seek os u d (register u.context 12)) refl
+
+entered-boot-fstat : (os : LibOs) (u : Upcall) (d : Option Description) → (fstat_entered os u d).boot ≡ os.boot
+entered-boot-fstat os u None = refl
+entered-boot-fstat os u (Some d) = boot_if (is_file d.kind) (stage_of os u FileLength) _ os.boot refl refl
+
+entered-boot-ftruncate : (os : LibOs) (u : Upcall) (d : Option Description) → (ftruncate_entered os u d).boot ≡ os.boot
+entered-boot-ftruncate os u None = refl
+entered-boot-ftruncate os u (Some d) =
+    boot_if (is_file d.kind && (bit_and d.access 2 == 2 && nat_lt (register u.context 11) (2 ^ 63)))
+    (stage_of os u SetFileLength) (result_of os u (error EINVAL)) os.boot refl refl
+
 entered-boot-pages : (os : LibOs) (u : Upcall) (known : Option ℕ) (stage : Stage) (page count : ℕ) → (on_pages os u known stage page count).boot ≡ os.boot
 entered-boot-pages os u None stage page count = refl
 entered-boot-pages os u (Some result) stage page count = refl
@@ -187,13 +220,21 @@ entered-boot-descriptors os u number =
     (boot_if (number == DUP) (dup_entered os u d) _ os.boot (entered-boot-dup os u d)
     (boot_if (number == DUP3) (dup3_unless os u (dup3_known u.context)) (memory_entered os u number) os.boot (entered-boot-dup3 os u (dup3_known u.context)) (entered-boot-memory os u number)))
 
+entered-boot-files : (os : LibOs) (u : Upcall) (number : ℕ) → (file_entered os u number).boot ≡ os.boot
+entered-boot-files os u number =
+    let d = description_behind os u.process (register u.context 10) in
+    boot_if (number == READ) (read_entered os u d) _ os.boot (entered-boot-read os u d)
+    (boot_if (number == LSEEK) (lseek_entered os u d) _ os.boot (entered-boot-lseek os u d)
+    (boot_if (number == FSTAT) (fstat_entered os u d) _ os.boot (entered-boot-fstat os u d)
+    (boot_if (number == FTRUNCATE) (ftruncate_entered os u d) (descriptor_entered os u number) os.boot (entered-boot-ftruncate os u d) (entered-boot-descriptors os u number))))
+
 -- a library OS that begins to serve a trap is as far as before
 pub entered-boot : (os : LibOs) (u : Upcall) → (entered os u).boot ≡ os.boot
 entered-boot os u =
     boot_if (u.cause == 8) (call_entered os u (register u.context 17)) (ends_process os u (fault_code u.cause)) os.boot
     (boot_if (register u.context 17 == WRITE) (write_entered os u (description_behind os u.process (register u.context 10))) _ os.boot
     (entered-boot-write os u (description_behind os u.process (register u.context 10)))
-    (boot_if (is_exit (register u.context 17)) (exit_entered os u (register u.context 17)) (descriptor_entered os u (register u.context 17)) os.boot (entered-boot-exit os u (register u.context 17)) (entered-boot-descriptors os u (register u.context 17))))
+    (boot_if (is_exit (register u.context 17)) (exit_entered os u (register u.context 17)) (file_entered os u (register u.context 17)) os.boot (entered-boot-exit os u (register u.context 17)) (entered-boot-files os u (register u.context 17))))
     refl
 
 same_runs : (m n : Mono) → Runs m ≡ Runs n → m ≡ n

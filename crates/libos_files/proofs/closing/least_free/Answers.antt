@@ -1,8 +1,8 @@
 use Rattle.std.proofs.Common.{◌∙◌, sym}
 use Rattle.guest_space.proofs.FirstSome.{first_some-end}
 use Rattle.libos_state.specs.Entered.{if_free_descriptor}
-use Rattle.libos_calls.proofs.Closings.{first_stops, first_goes_on}
-use Rattle.libos_calls.proofs.closing.least_free.Goals as goal
+use Rattle.libos_files.proofs.Closings.{first_stops, first_goes_on}
+use Rattle.libos_files.proofs.closing.least_free.Goals as goal
 
 pub returns-then-is_some : goal.returns-then-is_some
 returns-then-is_some c =

@@ -1,6 +1,6 @@
 use Rattle.std.proofs.Common.{◌≡◌, map, take}
 use Rattle.libos_state.specs.Descriptors.{redescribed, joined_in}
-use Rattle.libos_calls.proofs.closing.notes_joined.Given as goal
+use Rattle.libos_files.proofs.descriptors.notes_joined.Given as goal
 
 -- the first records are joined
 abbrev pub invariant-loop-note : goal.invariant-loop-note

@@ -1,7 +1,7 @@
 -- What is kept is what passes the test.
 use Rattle.std.proofs.Common.{rules, tests}
 use Rattle.std.proofs.lemmas.Fn.{filter_same}
-use Rattle.libos_calls.proofs.closing.leave_naming.Goals as goal
+use Rattle.libos_files.proofs.descriptors.leave_numbered.Goals as goal
 
 pub returns : goal.returns
 returns c = filter_same _ _ _ (λ x b f' k. search (rules, tests)) _ _ c.retain.ensures.filtered
